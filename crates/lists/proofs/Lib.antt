@@ -1,0 +1,5 @@
+pub mod Fold
+pub mod Rows
+pub mod Search
+pub mod Padding
+pub mod Tests

@@ -1,0 +1,4 @@
+pub mod Fold
+pub mod Rows
+pub mod Search
+pub mod Padding
