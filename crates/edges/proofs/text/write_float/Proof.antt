@@ -1,0 +1,19 @@
+use borrow.Author.Needs.{needs}
+use Rattle.edges.proofs.Laws.{no-nan}
+use Rattle.edges.proofs.text.write_float.Statement.{statement}
+use Rattle.edges.proofs.text.write_float.Tie as tie
+
+pub write-float-spec : {M : Type 1} → statement M
+write-float-spec =
+    tie.close
+    (tie.spec
+    (λ c. search needs)
+    (λ c κs. tt)
+    (λ c. search needs)
+    (λ c κs. tt)
+    (λ c. tt)
+    (λ c. no-nan _ (c .if1 .left))
+    (λ c κs. tt)
+    (λ c. search needs)
+    (λ c κs. tt)
+    (λ c. tt))

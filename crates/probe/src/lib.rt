@@ -1,0 +1,110 @@
+// Only for tests: the functions of `float` under C names, so that the Rust in oracle/ can call what was proved and hold it to the standard library. Nothing else may be built on it.
+ghost use Prim.Native.Nat.{min};
+ghost use mathlib.Core.Path.{_≡_};
+ghost use lib.Ieee.Scale.{finite as isFinite};
+ghost use Rattle.float.specs.Helpers as S;
+ghost use Rattle.float.specs.TotalOrder as Total;
+ghost use Rattle.float.specs.Root as Root;
+ghost use Rattle.probe.specs.Answers.{number, rootsOver};
+use float::Comparison;
+
+#[no_mangle]
+pub extern "C" fn probe_finite(x: f64) -> bool
+    ensures { λ r. ⌜ r ≡ isFinite x ⌝ }
+{
+    float::finite(x)
+}
+
+#[no_mangle]
+pub extern "C" fn probe_size(x: f64) -> f64
+    ensures { λ r. ⌜ r ≡ S.sizeOf x ⌝ }
+{
+    float::size(x)
+}
+
+#[no_mangle]
+pub extern "C" fn probe_round(x: f64) -> f64
+    ensures { λ r. ⌜ r ≡ S.roundHalfAway x ⌝ }
+{
+    float::round(x)
+}
+
+#[no_mangle]
+pub extern "C" fn probe_clamp_unit(x: f64) -> f64
+    ensures { λ r. ⌜ r ≡ S.clampUnit x ⌝ }
+{
+    float::clamp_unit(x)
+}
+
+#[no_mangle]
+pub extern "C" fn probe_to_radians(degrees: f64) -> f64
+    ensures { λ r. ⌜ r ≡ S.toRadians degrees ⌝ }
+{
+    float::to_radians(degrees)
+}
+
+#[no_mangle]
+pub extern "C" fn probe_to_degrees(radians: f64) -> f64
+    ensures { λ r. ⌜ r ≡ S.toDegrees radians ⌝ }
+{
+    float::to_degrees(radians)
+}
+
+#[no_mangle]
+pub extern "C" fn probe_root(x: f64) -> f64
+    ensures { λ r. ⌜ r ≡ Root.root x ⌝ }
+{
+    float::root(x)
+}
+
+#[no_mangle]
+pub extern "C" fn probe_order_key(x: f64) -> u64
+    ensures { λ r. ⌜ r ≡ Total.orderKey x ⌝ }
+{
+    float::order_key(x)
+}
+
+#[no_mangle]
+pub extern "C" fn probe_minimum(x: f64, y: f64) -> f64
+    ensures { λ r. ⌜ r ≡ S.minimum x y ⌝ }
+{
+    float::minimum(x, y)
+}
+
+#[no_mangle]
+pub extern "C" fn probe_maximum(x: f64, y: f64) -> f64
+    ensures { λ r. ⌜ r ≡ S.maximum x y ⌝ }
+{
+    float::maximum(x, y)
+}
+
+// An enum does not cross to C: 0 less, 1 equal, 2 greater.
+#[no_mangle]
+pub extern "C" fn probe_total_cmp(x: f64, y: f64) -> u32
+    ensures { λ r. ⌜ r ≡ number (Total.totalCompare x y) ⌝ }
+{
+    match float::total_cmp(x, y) {
+        Comparison::Less => 0,
+        Comparison::Equal => 1,
+        Comparison::Greater => 2,
+    }
+}
+
+// The root of each of xs, written to answers as far as both reach.
+#[no_mangle]
+pub extern "C" fn probe_roots(xs: &[f64], answers: &mut [f64])
+    ensures { λ _. ⌜ now (answers .exit) ≡ rootsOver (now (xs .entry)) (now (answers .entry)) ⌝ }
+{
+    let n = shorter(xs.len(), answers.len());
+    let mut i: usize = 0;
+    while i < n {
+        answers[i] = float::root(xs[i]);
+        i += 1;
+    }
+}
+
+fn shorter(a: usize, b: usize) -> usize
+    ensures { λ r. ⌜ r ≡ min a b ⌝ }
+{
+    if a < b { a } else { b }
+}

@@ -1,0 +1,45 @@
+//! The exports of the crate `probe`: what was proved of `float`, under Rust's names.
+
+use std::cmp::Ordering;
+
+// Each is total and pure (its contract has no `requires`), so a call is safe. `probe_roots` alone takes slices, which C
+// passes as a pointer and a length.
+unsafe extern "C" {
+    #[link_name = "probe_finite"]
+    pub safe fn finite(x: f64) -> bool;
+    #[link_name = "probe_size"]
+    pub safe fn size(x: f64) -> f64;
+    #[link_name = "probe_round"]
+    pub safe fn round(x: f64) -> f64;
+    #[link_name = "probe_clamp_unit"]
+    pub safe fn clamp_unit(x: f64) -> f64;
+    #[link_name = "probe_to_radians"]
+    pub safe fn to_radians(degrees: f64) -> f64;
+    #[link_name = "probe_to_degrees"]
+    pub safe fn to_degrees(radians: f64) -> f64;
+    #[link_name = "probe_root"]
+    pub safe fn root(x: f64) -> f64;
+    #[link_name = "probe_order_key"]
+    pub safe fn order_key(x: f64) -> u64;
+    #[link_name = "probe_minimum"]
+    pub safe fn minimum(x: f64, y: f64) -> f64;
+    #[link_name = "probe_maximum"]
+    pub safe fn maximum(x: f64, y: f64) -> f64;
+    safe fn probe_total_cmp(x: f64, y: f64) -> u32;
+    fn probe_roots(xs: *const f64, count: usize, answers: *mut f64, room: usize);
+}
+
+pub fn total_cmp(x: f64, y: f64) -> Ordering {
+    match probe_total_cmp(x, y) {
+        0 => Ordering::Less,
+        1 => Ordering::Equal,
+        2 => Ordering::Greater,
+        other => panic!("probe_total_cmp answers {other}"),
+    }
+}
+
+/// The root of each of `xs`, written to `answers` as far as both reach.
+pub fn roots(xs: &[f64], answers: &mut [f64]) {
+    // SAFETY: each pointer goes with its own length, and the two slices do not overlap.
+    unsafe { probe_roots(xs.as_ptr(), xs.len(), answers.as_mut_ptr(), answers.len()) }
+}
