@@ -1,0 +1,34 @@
+-- The proofs. What other crates cite is in Laws, KernelLaws and Slope; the rest leads there.
+-- Tests and tables.
+pub mod Choices
+pub mod Table
+-- S and C: the terms, Horner's form, and the slope.
+pub mod TaylorTerms
+pub mod HornerForm
+pub mod Slope
+-- The sums in floats.
+pub mod SumError
+pub mod KernelError
+-- The reduction.
+pub mod NearestTurn
+pub mod Scaling
+-- Sine and cosine.
+pub mod WaveError
+pub mod WaveSteps
+pub mod KernelLaws
+pub mod WaveLaws
+-- Arctangent: the angle on the grid, then by the eighths of the plane.
+pub mod ResidualBound
+pub mod GridAngle
+pub mod Bisection
+pub mod TangentError
+pub mod Cells
+pub mod Quadrants
+pub mod CandidateCheck
+pub mod DirectionLaws
+pub mod ArctangentLaws
+pub mod Denominators
+-- Arccosine.
+pub mod ArccosineLaws
+pub mod Laws
+pub mod Examples

@@ -1,0 +1,28 @@
+-- `trig::sine` meets its contract. Assumes nothing.
+use borrow.Author.Needs.{needs}
+use mathlib.Core.Path.{sym, ap, _∙_, subst}
+use lib.Dec.{T}
+use lib.Ieee.{binary64, fits}
+use Rattle.trig.specs.declared.Answer.the-variants.{Value}
+use Rattle.trig.specs.Waves.{SineAnswer}
+use Rattle.trig.proofs.WaveLaws.{sine-answer, sine-served, sine-refused}
+use Rattle.trig.proofs.sine.Statement.{statement}
+use Rattle.trig.proofs.sine.Tie as tie
+
+held : (c : tie.Start) → T (fits binary64 (c .args .x))
+held c = subst T (sym (c .good .0 .1)) tt
+
+served-requires : tie.Need-served-requires
+served-requires c κs = search needs
+
+sine-value-requires : tie.Need-sine-value-requires
+sine-value-requires c κs = sym (c .before .served .ensures) ∙ c .if1 .taken
+
+returns : tie.Need-returns
+returns c = let e = ap Value (c .sine-value .ensures) ∙ sine-served (c .before .before .before .args .x) (sym (c .before .before .served .ensures) ∙ c .before .if1 .taken) in (e, subst (SineAnswer (c .before .before .before .args .x)) (sym e) (sine-answer (c .before .before .before .args .x) (held (c .before .before .before))))
+
+returns-2 : tie.Need-returns-2
+returns-2 c = let e = sine-refused (c .before .before .args .x) (sym (c .before .served .ensures) ∙ c .if1 .left) in (e, subst (SineAnswer (c .before .before .args .x)) (sym e) (sine-answer (c .before .before .args .x) (held (c .before .before))))
+
+pub sine-spec : {M : Type 1} → statement M
+sine-spec = tie.close (tie.spec served-requires sine-value-requires returns returns-2)
