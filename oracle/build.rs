@@ -1,7 +1,6 @@
 //! Links the archives that `rt staticlib` wrote to target/staticlib/ of the repository.
 
 use std::path::Path;
-use std::process::exit;
 
 /// The crates whose exports are compared, by name.
 const ARCHIVES: [&str; 1] = ["probe"];
@@ -16,7 +15,6 @@ fn main() {
             println!(
                 "cargo::error=target/staticlib/lib{name}.a is missing: run `rt staticlib {name}` in the repository's root first"
             );
-            exit(1);
         }
         println!("cargo::rustc-link-lib=static={name}");
     }

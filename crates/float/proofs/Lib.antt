@@ -16,6 +16,7 @@ pub mod Between
 pub mod WholeRoot
 pub mod RootParts
 pub mod RootCases
+pub mod RootTests
 pub mod RootOrder
 pub mod RootUnique
 pub mod RootNearby

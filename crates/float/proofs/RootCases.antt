@@ -71,19 +71,12 @@ scaled x hx N k y a v w i e =
     go f k h = omega arith
 
 -- ---- the cases of `root`
-abbrev infinite : Float
-infinite = ofBits binary64 0x7ff0_0000_0000_0000
-
 -- 2 ^ -1022, the least normal value, and 2 ^ 54
 abbrev pub least : Float
 least = ofBits binary64 0x0010_0000_0000_0000
 
 abbrev pub lifting : Float
 lifting = ofBits binary64 0x4350_0000_0000_0000
-
-pub case-nan : (x : Float) → ne x x ≡ true → x ≡ root x
-unfolding root
-case-nan x h = subst (λ (z : Float). z ≡ root z) (sym (lib.Ieee.Compare.differs-from-itself x (subst T (sym h) tt))) refl
 
 -- a product of what is above zero is above zero
 above : (a b c : ℕ) → 0 < a → 0 < b → 0 < c → a * b * c ≡ 0 → ⊥
@@ -124,13 +117,6 @@ case-below (fin false m e) h l = absurd (none (m * up e * 1) (down e) (ltb-true 
     none : (a d : ℕ) → a < 0 * 1 * d → ⊥
     none a d h = omega arith
 
-pub case-infinite : (x : Float) → lt x nought ≡ false → eq x infinite ≡ true → x ≡ root x
-unfolding root ofBits eq lt
-case-infinite nan h l = absurd (false≢true l)
-case-infinite (inf true) h l = absurd (true≢false h)
-case-infinite (inf false) h l = refl
-case-infinite (fin s m e) h l = absurd (false≢true l)
-
 -- what is left is finite and above zero
 pub record Above (x : Float) : Type 0 where
   pub v : ℕ
@@ -160,18 +146,6 @@ above-of m e t =
 
     opened : root (fin false (suc m) e) ≡ rootUnits (suc m * up e * 2 ^ 1074 / down e)
     opened = unfold root in refl
-
-same-inf : eq (inf false) infinite ≡ true
-unfolding eq ofBits
-same-inf = refl
-
-pub case-above : (x : Float) → T (fits binary64 x) → ne x x ≡ false → eq x nought ≡ false → lt x nought ≡ false → eq x infinite ≡ false → Above x
-case-above nan t a b c d = absurd (true≢false (sym lib.Ieee.Compare.nan-differs ∙ a))
-case-above (inf true) t a b c d = absurd (true≢false (sym below-inf ∙ c))
-case-above (inf false) t a b c d = absurd (true≢false (sym same-inf ∙ d))
-case-above (fin s zero e) t a b c d = absurd (true≢false (sym (zero-eq s e) ∙ b))
-case-above (fin true (suc m) e) t a b c d = absurd (true≢false (sym (neg-below m e) ∙ c))
-case-above (fin false (suc m) e) t a b c d = above-of m e t
 
 least-is : Is least false (2 ^ 52)
 unfolding ofBits U

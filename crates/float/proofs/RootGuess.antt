@@ -15,5 +15,5 @@ low-bits n h = subst (λ (z : Bool). T (not z)) (sym (nanBits-above binary64 n �
     go : (n : ℕ) → n ≤ 9218868437227405312 → n % 9223372036854775808 ≤ 9218868437227405312
     go n h = omega arith
 
-pub start-low : (b : ℕ) → 6910469410427058090 - b / 2 ≤ 9218868437227405312
+pub start-low : (b : ℕ) → 6909647724535087104 - b / 2 ≤ 9218868437227405312
 start-low b = omega arith

@@ -1,6 +1,8 @@
 // IEEE 754's square root of every f64 without a machine's: a guess by floats, confirmed exactly in 64 bits, with the root of a whole number behind it. Nothing is promised of the guess,
 // so any better one can take its place.
-ghost use Prim.Native.Nat.{_+_, _*_, _^_, _<_, _≤_};
+ghost use Prim.Native.Nat.{_+_, _*_, _%_, _^_, _<_, _≤_};
+ghost use mathlib.Core.Bool.{true};
+ghost use lib.Ieee.{lt, ofBits, binary64};
 ghost use mathlib.Core.Path.{_≡_};
 ghost use Rattle.float.specs.RootSteps.{WholeRoot, Nearby, Confirmed, PartsRoot, ScaledRoot, Normal};
 ghost use Rattle.float.specs.Root as S;
@@ -22,6 +24,11 @@ fn newton(g: f64, y: f64) -> f64 {
     y * (1.5 - g * (y * y))
 }
 
+// The same at the first guess y, of f itself, with the two numbers that make the error least: no promise.
+fn first_step(f: f64, y: f64) -> f64 {
+    y * (1.6819140909799934 - 0.703952253 * f * (y * y))
+}
+
 // The largest s with s * s <= h * 2^44, for h from 2^62 up.
 fn root54(h: u64) -> u64
     requires { ⌜ 2 ^ 62 ≤ h ⌝ }
@@ -35,27 +42,19 @@ fn root54(h: u64) -> u64
     if q * q <= u * 4194304 { t } else { t - 1 }
 }
 
-// A guess at the root of m * 2^(52 + o), 53 digits of it, by floats: no promise.
-fn estimate(m: u64, o: u64) -> u64
-    requires { ⌜ (m < 9007199254740992) × (o < 2) ⌝ }
+// A guess at the root of the float from 1 up to 4 whose bits are b: no promise.
+fn estimate(b: u64) -> f64
+    requires { ⌜ b < 4616189618054758400 ⌝ }
 {
-    let b = (1022 + o) * 4503599627370496 + m;
     let f = f64::from_bits(b);
     let g = 0.5 * f;
     let y = newton(
         g,
-        newton(g, newton(g, f64::from_bits(6910469410427058090 - b / 2))),
+        first_step(f, f64::from_bits(6909647724535087104 - b / 2)),
     );
     let z = f * y;
-    let r = z + z * (0.5 - g * y * y);
-    if r != r {
-        return 0;
-    }
-    let c = f64::to_bits(r);
-    if c < 4602678819172646912 {
-        return 0;
-    }
-    c - 4602678819172646912
+    let e = 0.5 - g * y * y;
+    z + z * e * (1.0 + 1.5 * e)
 }
 
 // The nearest to the root of m * 2^(52 + o) among q and its two neighbours, or 0: m * (1 + o) * 2^52 + p = q * q + l.
@@ -66,10 +65,10 @@ fn confirmed(m: u64, o: u64, q: u64) -> u64
     if 9007199254740992 < q {
         return 0;
     }
-    let a = q / 134217728;
-    let b = q % 134217728;
+    let a = q / 67108864;
+    let b = q % 67108864;
     let h = m * (1 + o) + 8;
-    let k = 4 * (a * a);
+    let k = a * a;
     if h < k {
         return 0;
     }
@@ -78,7 +77,7 @@ fn confirmed(m: u64, o: u64, q: u64) -> u64
         return 0;
     }
     let t = r * 33554432;
-    let w = 2 * (a * b);
+    let w = a * b;
     if t < w {
         return 0;
     }
@@ -103,60 +102,79 @@ fn confirmed(m: u64, o: u64, q: u64) -> u64
     0
 }
 
-// The nearest whole number to the root of m * 2^(52 + o).
-fn digits(m: u64, o: u64) -> u64
+// The nearest whole number to the root of m * 2^(52 + o), where no guess was confirmed.
+fn sure_digits(m: u64, o: u64) -> u64
     requires { ⌜ (4503599627370496 ≤ m) × (m < 9007199254740992) × (o < 2) ⌝ }
     ensures { λ q. ⌜ Nearby (m * (1 + o) * 2 ^ 52) q ⌝ }
 {
-    let r = confirmed(m, o, estimate(m, o));
-    if r == 0 {
-        (root54(m * (1024 + 1024 * o)) + 1) / 2
-    } else {
-        r
-    }
+    (root54(m * (1024 + 1024 * o)) + 1) / 2
 }
 
-// The root of m * 2^(f - 65) units of 2^-1074, rounded.
-fn parts_root(m: u64, f: u64) -> f64
-    requires { ⌜ (4503599627370496 ≤ m) × (m < 9007199254740992) × (1 ≤ f) × (f ≤ 2200) ⌝ }
+// The root of m * 2^(f - 65) units of 2^-1074, rounded, of which the digits are q.
+fn parts_root(m: u64, f: u64, q: u64) -> f64
+    requires { ⌜ (4503599627370496 ≤ m) × (m < 9007199254740992) × (1 ≤ f) × (f ≤ 2200) × (Nearby (m * (1 + (f + 1) % 2) * 2 ^ 52) q) ⌝ }
     ensures { λ y. ⌜ PartsRoot m f y ⌝ }
 {
-    let odd = (f + 1) % 2;
-    let q = digits(m, odd);
-    let e = (f + 955 - odd) / 2 + 1;
+    let e = (f + 957) / 2;
     f64::from_bits(e * 4503599627370496 + q)
 }
 
-// The root of x * 2^(shift - 64), rounded, for a normal x above zero.
-fn normal_root(x: f64, shift: u64) -> f64
+// The root of x * 2^(shift - 64), rounded, for a normal x above zero: the sure way, out of the quick one's way.
+fn sure_root(x: f64, shift: u64) -> f64
     requires { ⌜ (Normal x) × (shift ≤ 64) ⌝ }
     ensures { λ y. ⌜ ScaledRoot x shift y ⌝ }
 {
     let b = f64::to_bits(x);
-    let field = b / 4503599627370496;
+    let f = b / 4503599627370496 + shift;
     let m = b % 4503599627370496 + 4503599627370496;
-    parts_root(m, field + shift)
+    let odd = (f + 1) % 2;
+    parts_root(m, f, sure_digits(m, odd))
 }
 
-// The square root of any f64, correctly rounded.
-pub fn root(x: f64) -> f64
+// The root of x, rounded, for a normal x above zero.
+fn normal_root(x: f64) -> f64
+    requires { ⌜ Normal x ⌝ }
+    ensures { λ y. ⌜ ScaledRoot x 64 y ⌝ }
+{
+    let b = f64::to_bits(x);
+    let f = b / 4503599627370496 + 64;
+    let m = b % 4503599627370496 + 4503599627370496;
+    let odd = (f + 1) % 2;
+    let guess = estimate((b + 4503599627370496) % 9007199254740992 + 4607182418800017408);
+    if guess != guess {
+        return sure_root(x, 64);
+    }
+    let digits = std::num::wrapping_sub_u64(f64::to_bits(guess), 4602678819172646912);
+    let q = confirmed(m, odd, digits);
+    if q == 0 {
+        return sure_root(x, 64);
+    }
+    parts_root(m, f, q)
+}
+
+// The root of what is below the least normal value.
+fn small_root(x: f64) -> f64
+    requires { ⌜ lt x (ofBits binary64 4503599627370496) ≡ true ⌝ }
     ensures { λ y. ⌜ y ≡ S.root x ⌝ }
 {
-    if x != x {
-        return x;
-    }
     if x == 0.0 {
         return x;
     }
     if x < 0.0 {
         return 0.0 / 0.0;
     }
-    let infinite = f64::from_bits(9218868437227405312);
-    if x == infinite {
-        return x;
-    }
+    sure_root(x * 18014398509481984.0, 10)
+}
+
+// The square root of any f64, correctly rounded.
+pub fn root(x: f64) -> f64
+    ensures { λ y. ⌜ y ≡ S.root x ⌝ }
+{
     if x < 2.2250738585072014e-308 {
-        return normal_root(x * 18014398509481984.0, 10);
+        return small_root(x);
     }
-    normal_root(x, 64)
+    if x < f64::from_bits(9218868437227405312) {
+        return normal_root(x);
+    }
+    x
 }

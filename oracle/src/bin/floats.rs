@@ -146,7 +146,7 @@ fn compare_arrays(tallies: &mut Tallies, xs: &[f64], random: &mut Random) {
     for (i, &answer) in answers.iter().enumerate() {
         let expected = xs.get(i).map_or(untouched[i], |x| x.sqrt());
         if !same(answer, expected) {
-            tally.differ(&xs[i..], answer, expected);
+            tally.differ(xs.get(i..=i).unwrap_or(&[]), answer, expected);
         }
     }
 }
@@ -162,7 +162,7 @@ impl Tally {
     fn differ(&mut self, arguments: &[f64], answer: f64, expected: f64) {
         self.different += 1;
         if self.examples.len() < 5 {
-            let words: Vec<String> = arguments.iter().take(2).map(|x| spelled(*x)).collect();
+            let words: Vec<String> = arguments.iter().map(|x| spelled(*x)).collect();
             self.examples.push(format!(
                 "{}({}) answers {}, Rust {}",
                 self.name,

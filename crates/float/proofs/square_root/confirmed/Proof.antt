@@ -5,13 +5,13 @@ use borrow.Author.Needs.{needs}
 use Rattle.float.proofs.square_root.confirmed.Statement.{statement}
 use Rattle.float.proofs.square_root.confirmed.Tie as tie
 
-times4 : (x : ℕ) → x ≤ 2 ^ 52 → (x < 2 ^ 64) × (4 * x < 2 ^ 64)
-times4 x h = omega arith
+fits-square : (x : ℕ) → x ≤ 2 ^ 54 → x < 2 ^ 64
+fits-square x h = omega arith
 
-times2 : (x : ℕ) → x ≤ 2 ^ 53 → (x < 2 ^ 64) × (2 * x < 2 ^ 64)
-times2 x h = omega arith
+fits-product : (x : ℕ) → x ≤ 2 ^ 53 → x < 2 ^ 64
+fits-product x h = omega arith
 
-sums : (x q : ℕ) → x ≤ 2 ^ 54 → q ≤ 9007199254740992 → (x < 2 ^ 64) × (x + 36028797018963968 < 2 ^ 64) × (x + 36028797018963968 + q < 2 ^ 64) × (x + 36028797018963968 + 2 < 2 ^ 64)
+sums : (x q : ℕ) → x ≤ 2 ^ 52 → q ≤ 9007199254740992 → (x < 2 ^ 64) × (x + 36028797018963968 < 2 ^ 64) × (x + 36028797018963968 + q < 2 ^ 64) × (x + 36028797018963968 + 2 < 2 ^ 64)
 sums x q h l = omega arith
 
 eight : (x : ℕ) → x ≤ 2 ^ 54 → (x < 2 ^ 64) × (x + 8 < 2 ^ 64)
@@ -30,10 +30,7 @@ add-h-2 : tie.Need-add-h-2
 add-h-2 c = record { fits = (eight _ (small-m _ _ (c .before .pre .0) (c .before .pre .1))) .1 }
 
 mul-k : tie.Need-mul-k
-mul-k c = record { fits = times4 _ (small-halves _ (c .if1 .left) .0) .0 }
-
-mul-k-2 : tie.Need-mul-k-2
-mul-k-2 c = record { fits = times4 _ (small-halves _ (c .if1 .left) .0) .1 }
+mul-k c = record { fits = fits-square _ (small-halves _ (c .if1 .left) .0) }
 
 returns-2 : tie.Need-returns-2
 returns-2 c = search needs
@@ -45,10 +42,7 @@ mul-t : tie.Need-mul-t
 mul-t c = search needs
 
 mul-w : tie.Need-mul-w
-mul-w c = record { fits = times2 _ (small-halves _ (c .before .before .if1 .left) .1) .0 }
-
-mul-w-2 : tie.Need-mul-w-2
-mul-w-2 c = record { fits = times2 _ (small-halves _ (c .before .before .if1 .left) .1) .1 }
+mul-w c = record { fits = fits-product _ (small-halves _ (c .before .before .if1 .left) .1) }
 
 returns-4 : tie.Need-returns-4
 returns-4 c = search needs
@@ -119,12 +113,10 @@ confirmed-spec =
     mul-h
     add-h-2
     mul-k
-    mul-k-2
     returns-2
     returns-3
     mul-t
     mul-w
-    mul-w-2
     returns-4
     returns-5
     mul-l

@@ -1,34 +1,54 @@
-use Prim.Native.Nat.{ℕ, _+_, _<_, _≤_, _^_, _/_, _%_}
+use Prim.Native.Nat.{ℕ, _+_, _^_, _<_}
 use native.Mathlib.Omega.{arith}
-use lib.Dec.{T}
-use lib.Ieee.{binary64, fits, toBits}
-use Rattle.float.proofs.RootCases.{no-nan, bits-lo, bits-hi, parts, scaled}
+use lib.Dec.{lit≤}
+use lib.Ieee.{binary64, toBits}
 use borrow.Author.Needs.{needs}
+use Rattle.float.proofs.RootCases.{no-nan, bits-lo, bits-hi, scaled}
+use Rattle.float.proofs.RootNearby.{same-number}
+use Rattle.float.proofs.RootTests.{field-room, odd-room, m-low, m-high, f-low, f-high}
 use Rattle.float.proofs.square_root.normal_root.Statement.{statement}
 use Rattle.float.proofs.square_root.normal_root.Tie as tie
 
-room : (b k : ℕ) → 4503599627370496 ≤ b → b < 9218868437227405312 → k ≤ 64 → b / 4503599627370496 + k < 2 ^ 64
-room b k h l m = omega arith
+bits-room : (b : ℕ) → b < 9218868437227405312 → b + 4503599627370496 < 2 ^ 64
+bits-room b h = omega arith
 
-asked : (b k : ℕ) → 4503599627370496 ≤ b → b < 9218868437227405312 → k ≤ 64
-    → (4503599627370496 ≤ b % 4503599627370496 + 4503599627370496) × (b % 4503599627370496 + 4503599627370496 < 9007199254740992) × (1 ≤ b / 4503599627370496 + k) × (b / 4503599627370496 + k ≤ 2200)
-asked b k h l m = (omega arith, omega arith, omega arith, omega arith)
+add-f : tie.Need-add-f
+add-f c = record { fits = field-room (toBits binary64 (c .args .x)) 64 (bits-lo (c .args .x) (c .pre)) (bits-hi (c .args .x) (c .pre)) (lit≤ tt) }
 
-float-to-bits-b : tie.Need-float-to-bits-b
-float-to-bits-b c = no-nan (c .args .x) (bits-hi (c .args .x) (c .pre .0))
-
-add-m : tie.Need-add-m
-add-m c = search needs
-
-add-parts-root : tie.Need-add-parts-root
-add-parts-root c = record { fits = room (toBits binary64 (c .args .x)) (c .args .shift) (bits-lo (c .args .x) (c .pre .0)) (bits-hi (c .args .x) (c .pre .0)) (c .pre .1) }
+add-odd : tie.Need-add-odd
+add-odd c = record { fits = odd-room (toBits binary64 (c .args .x)) 64 (bits-lo (c .args .x) (c .pre)) (bits-hi (c .args .x) (c .pre)) (lit≤ tt) }
 
 parts-root-requires : tie.Need-parts-root-requires
-parts-root-requires c κs = asked (toBits binary64 (c .args .x)) (c .args .shift) (bits-lo (c .args .x) (c .pre .0)) (bits-hi (c .args .x) (c .pre .0)) (c .pre .1)
+parts-root-requires c κs =
+    let s = c .before .before .before .before .before in
+    let x = s .args .x in
+    let b = toBits binary64 x in
+    let lo = bits-lo x (s .pre) in
+    let hi = bits-hi x (s .pre) in
+    (m-low b 64 lo hi (lit≤ tt), m-high b 64 lo hi (lit≤ tt), f-low b 64 lo hi (lit≤ tt), f-high b 64 lo hi (lit≤ tt), c .before .confirmed .ensures (c .if2 .left))
 
-returns : tie.Need-returns
-returns c = scaled (c .before .args .x) (search needs) (c .before .pre .0) (c .before .args .shift) (c .parts-root .result) (c .parts-root .ensures)
+returns-3 : tie.Need-returns-3
+returns-3 c =
+    let s = c .before .before .before .before .before .before in
+    scaled (s .args .x) (search needs) (s .pre) 64 (c .parts-root .result) (c .parts-root .ensures)
 
 pub normal-root-spec : {M : Type 1} → statement M
 normal-root-spec =
-    tie.close (tie.spec float-to-bits-b add-m add-parts-root parts-root-requires returns)
+    tie.close
+    (tie.spec
+    (λ c. no-nan (c .args .x) (bits-hi (c .args .x) (c .pre)))
+    add-f
+    (λ c. search needs)
+    add-odd
+    (λ c. record { fits = bits-room (toBits binary64 (c .args .x)) (bits-hi (c .args .x) (c .pre)) })
+    (λ c. search needs)
+    (λ c κs. search needs)
+    (λ c κs. search needs)
+    (λ c. search needs)
+    (λ c. same-number _ (c .if1 .left))
+    (λ c κs. tt)
+    (λ c κs. search needs)
+    (λ c κs. search needs)
+    (λ c. search needs)
+    parts-root-requires
+    returns-3)
