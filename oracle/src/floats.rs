@@ -181,7 +181,7 @@ fn shifted(x: f64, random: &mut Random) -> f64 {
 }
 
 /// Of any number of digits, either sign.
-fn subnormal(random: &mut Random) -> f64 {
+pub fn subnormal(random: &mut Random) -> f64 {
     let digits = random.below(53);
     let sign = random.bits() << 63;
     f64::from_bits(sign | (random.bits() >> 12 >> digits))
@@ -193,7 +193,7 @@ fn digits(random: &mut Random) -> f64 {
 }
 
 /// 2 to the power of `e`, for a normal double's `e`.
-fn power_of_two(e: i64) -> f64 {
+pub fn power_of_two(e: i64) -> f64 {
     f64::from_bits(((e + 1023) as u64) << 52)
 }
 

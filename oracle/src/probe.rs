@@ -1,8 +1,8 @@
-//! The exports of the crate `probe`: what was proved of `float`, under Rust's names.
+//! The exports of the crate `probe`: what was proved of `float` and the pair of waves of `trig`, under Rust's names.
 
 use std::cmp::Ordering;
 
-// Each is total and pure (its contract has no `requires`), so a call is safe. `probe_roots` alone takes slices, which C
+// Each is total (its contract has no `requires`) and changes nothing but what it is lent, so a call is safe. `probe_roots` alone takes slices, which C
 // passes as a pointer and a length.
 unsafe extern "C" {
     #[link_name = "probe_finite"]
@@ -25,6 +25,8 @@ unsafe extern "C" {
     pub safe fn minimum(x: f64, y: f64) -> f64;
     #[link_name = "probe_maximum"]
     pub safe fn maximum(x: f64, y: f64) -> f64;
+    #[link_name = "probe_sine_cosine"]
+    pub safe fn sine_cosine(x: f64, sine: &mut f64, cosine: &mut f64) -> u32;
     safe fn probe_total_cmp(x: f64, y: f64) -> u32;
     fn probe_roots(xs: *const f64, count: usize, answers: *mut f64, room: usize);
 }

@@ -1,12 +1,14 @@
-// Only for tests: the functions of `float` under C names, so that the Rust in oracle/ can call what was proved and hold it to the standard library. Nothing else may be built on it.
+// Only for tests: functions under C names that the static library does not export, so that the Rust in oracle/ can call what was proved and hold it to the standard library: those of `float`, and `sine_cosine` of `trig`. Nothing else may be built on it.
 ghost use Prim.Native.Nat.{min};
 ghost use mathlib.Core.Path.{_≡_};
 ghost use lib.Ieee.Scale.{finite as isFinite};
 ghost use Rattle.float.specs.Helpers as S;
 ghost use Rattle.float.specs.TotalOrder as Total;
 ghost use Rattle.float.specs.Root as Root;
-ghost use Rattle.probe.specs.Answers.{number, rootsOver};
+ghost use Rattle.trig.specs.Waves as Waves;
+ghost use Rattle.probe.specs.Answers.{number, rootsOver, pairNumber, sineOver, cosineOver};
 use float::Comparison;
+use trig::PairAnswer;
 
 #[no_mangle]
 pub extern "C" fn probe_finite(x: f64) -> bool
@@ -107,4 +109,21 @@ fn shorter(a: usize, b: usize) -> usize
     ensures { λ r. ⌜ r ≡ min a b ⌝ }
 {
     if a < b { a } else { b }
+}
+
+// Both from one reduction: 0 and both written, or 17 and both kept.
+#[no_mangle]
+pub extern "C" fn probe_sine_cosine(x: f64, sine: &mut f64, cosine: &mut f64) -> u32
+    ensures number { λ n. ⌜ n ≡ pairNumber (Waves.paired (Waves.sineOf x) (Waves.cosineOf x)) ⌝ }
+    ensures sine { λ n. ⌜ now (sine .exit) ≡ sineOver (Waves.paired (Waves.sineOf x) (Waves.cosineOf x)) (now (sine .entry)) ⌝ }
+    ensures cosine { λ n. ⌜ now (cosine .exit) ≡ cosineOver (Waves.paired (Waves.sineOf x) (Waves.cosineOf x)) (now (cosine .entry)) ⌝ }
+{
+    match trig::sine_cosine(x) {
+        PairAnswer::Values(both) => {
+            *sine = both.sine;
+            *cosine = both.cosine;
+            0
+        }
+        PairAnswer::OutOfRange => refusal::TOO_LARGE,
+    }
 }

@@ -6,11 +6,10 @@
 //! status 1 where anything differs.
 
 use oracle::floats::{EDGES, PAIRED, any, beside, maximum, minimum, same, total_order};
+use oracle::parts::{argument, shared_out};
 use oracle::probe;
 use oracle::random::Random;
-use std::env;
 use std::process::ExitCode;
-use std::thread;
 
 /// A function of the proved code beside one of Rust. An answer that is no double is written as one.
 struct OfOne(&'static str, fn(f64) -> f64, fn(f64) -> f64);
@@ -49,8 +48,7 @@ const OF_TWO: [OfTwo; 4] = [
     ),
 ];
 
-/// The doubles of one part of the work. A part has a generator of its own, so the run is the same however many threads
-/// share it.
+/// The doubles of one part of the work.
 const PART: usize = 1_000_000;
 const PAIRS_OF_PART: usize = PART / 10;
 const ARRAYS_OF_PART: usize = 1_000;
@@ -59,45 +57,26 @@ fn main() -> ExitCode {
     let seed = argument(1, 1);
     let parts = argument(2, 50);
     println!("seed {seed}, {parts} million doubles");
-    let threads = thread::available_parallelism().map_or(1, |n| n.get() as u64);
     let mut total = Tallies::new();
-    thread::scope(|scope| {
-        let each: Vec<_> = (0..threads)
-            .map(|t| scope.spawn(move || every(seed, (t..parts).step_by(threads as usize))))
-            .collect();
-        for one in each {
-            total.add(one.join().expect("a thread of the comparison panicked"));
-        }
-    });
+    for tallies in shared_out(seed, parts, Tallies::new, compare_part) {
+        total.add(tallies);
+    }
     compare_edges(&mut total);
     total.print()
 }
 
-fn argument(place: usize, otherwise: u64) -> u64 {
-    let Some(word) = env::args().nth(place) else {
-        return otherwise;
-    };
-    word.parse()
-        .unwrap_or_else(|_| panic!("'{word}' is no whole number: floats [SEED] [MILLIONS]"))
-}
-
-fn every(seed: u64, parts: impl Iterator<Item = u64>) -> Tallies {
-    let mut tallies = Tallies::new();
-    for part in parts {
-        let mut random = Random::new(Random::new(seed).bits() ^ Random::new(part).bits());
-        let xs: Vec<f64> = (0..PART).map(|_| any(&mut random)).collect();
-        let ys: Vec<f64> = xs
-            .iter()
-            .take(PAIRS_OF_PART)
-            .map(|&x| beside(x, &mut random))
-            .collect();
-        compare_of_one(&mut tallies, &xs);
-        compare_of_two(&mut tallies, &xs, &ys);
-        for _ in 0..ARRAYS_OF_PART {
-            compare_arrays(&mut tallies, &xs, &mut random);
-        }
+fn compare_part(tallies: &mut Tallies, random: &mut Random) {
+    let xs: Vec<f64> = (0..PART).map(|_| any(random)).collect();
+    let ys: Vec<f64> = xs
+        .iter()
+        .take(PAIRS_OF_PART)
+        .map(|&x| beside(x, random))
+        .collect();
+    compare_of_one(tallies, &xs);
+    compare_of_two(tallies, &xs, &ys);
+    for _ in 0..ARRAYS_OF_PART {
+        compare_arrays(tallies, &xs, random);
     }
-    tallies
 }
 
 fn compare_edges(tallies: &mut Tallies) {

@@ -1,0 +1,110 @@
+//! The Rust that is compared, built as it stands twice: `untouched`, and `ported`, in which the calls of `sin_cos`, `sin`,
+//! `acos` and `atan2` in kinematics.rs go to the exports and nothing else changes. The build script writes both.
+
+use crate::maztubel;
+use std::fmt;
+
+/// What the files take from the crate's root.
+pub type Result<T> = std::result::Result<T, IrError>;
+
+#[derive(Clone, Debug, PartialEq)]
+pub enum IrError {
+    InvalidInput(String),
+    Json(String),
+}
+
+impl fmt::Display for IrError {
+    fn fmt(&self, f: &mut fmt::Formatter<'_>) -> fmt::Result {
+        match self {
+            IrError::InvalidInput(text) => write!(f, "invalid input: {text}"),
+            IrError::Json(text) => write!(f, "json: {text}"),
+        }
+    }
+}
+
+#[allow(dead_code, clippy::type_complexity)]
+pub mod untouched {
+    pub use super::{IrError, Result};
+    include!(concat!(env!("OUT_DIR"), "/untouched/modules.rs"));
+}
+
+#[allow(dead_code, clippy::type_complexity)]
+pub mod ported {
+    pub use super::{IrError, Ported, Result};
+    include!(concat!(env!("OUT_DIR"), "/ported/modules.rs"));
+}
+
+/// The exports under the names that `ported` calls. Where an export refuses there is no number: a nan.
+pub trait Ported {
+    fn ported_sin(self) -> f64;
+    fn ported_sin_cos(self) -> (f64, f64);
+    fn ported_acos(self) -> f64;
+    fn ported_atan2(self, x: f64) -> f64;
+}
+
+impl Ported for f64 {
+    fn ported_sin(self) -> f64 {
+        maztubel::sine(self).unwrap_or(f64::NAN)
+    }
+
+    fn ported_sin_cos(self) -> (f64, f64) {
+        let cosine = maztubel::cosine(self).unwrap_or(f64::NAN);
+        (self.ported_sin(), cosine)
+    }
+
+    fn ported_acos(self) -> f64 {
+        maztubel::arccosine(self).unwrap_or(f64::NAN)
+    }
+
+    fn ported_atan2(self, x: f64) -> f64 {
+        maztubel::arctangent(self, x).unwrap_or(f64::NAN)
+    }
+}
+
+#[cfg(test)]
+mod tests {
+    /// The joints of a small path on a table A and C, as far as solving and dividing it, and the poses.
+    macro_rules! divided {
+        ($module:ident) => {{
+            use super::$module::geom::Vec3;
+            use super::$module::kinematics::*;
+            let joint = |letter, axis| RotaryJoint {
+                letter,
+                carrier: Carrier::Table,
+                axis,
+                pivot: Vec3::from_xyz(1.0, 2.0, 3.0),
+                limits: None,
+            };
+            let setup = FiveAxisSetup {
+                kinematics: Kinematics {
+                    name: "k".to_owned(),
+                    rotaries: vec![joint('A', Vec3::X), joint('C', Vec3::Z)],
+                    spindle_axis: Vec3::Z,
+                    model: None,
+                },
+                policy: SolutionPolicy::Nearest,
+            };
+            let pose = |x, y| ToolPose {
+                tip: Vec3::from_xyz(x, y, 5.0),
+                axis: Vec3::from_xyz(0.6, 0.0, 0.8),
+            };
+            let poses = [pose(10.0, 20.0), pose(-30.0, 40.0)];
+            let joints = solve_path(&setup, &poses, None, 1.0).expect("a path that is solved");
+            let (poses, joints) = subdivide_path(&setup, "p", &poses, &joints, 0.01, 0.01)
+                .expect("a path that is divided");
+            let numbers = |v: Vec3| [v.x(), v.y(), v.z()];
+            let of_poses = poses.iter().flat_map(|p| [numbers(p.tip), numbers(p.axis)]);
+            let of_joints = joints.iter().map(|j| numbers(j.xyz));
+            of_poses.chain(of_joints).flatten().collect::<Vec<f64>>()
+        }};
+    }
+
+    #[test]
+    fn ported_stays_close() {
+        let (untouched, ported) = (divided!(untouched), divided!(ported));
+        assert_eq!(untouched.len(), ported.len());
+        for (x, y) in untouched.into_iter().zip(ported) {
+            assert!((x - y).abs() < 1e-9, "{x} and {y}");
+        }
+    }
+}
