@@ -18,10 +18,30 @@ extern "C" {
 
 enum {
     MAZTUBEL_SERVED = 0,
+    /* there are not 1 or 2 rotaries */
+    MAZTUBEL_ROTARY_COUNT = 3,
+    /* a rotary's letter is not A, B or C */
+    MAZTUBEL_ROTARY_LETTER = 4,
+    /* two rotaries have one letter */
+    MAZTUBEL_LETTER_TWICE = 5,
+    /* a component of the chain is not finite */
+    MAZTUBEL_CHAIN_NOT_FINITE = 6,
+    /* a rotary's axis is zero */
+    MAZTUBEL_ROTARY_AXIS_ZERO = 7,
+    /* a rotary's limits are refused */
+    MAZTUBEL_LIMITS_REFUSED = 8,
+    /* the spindle's axis is zero */
+    MAZTUBEL_SPINDLE_ZERO = 9,
+    /* the tool length is refused */
+    MAZTUBEL_TOOL_LENGTH = 14,
+    /* a joint, a hint or a tip is not finite */
+    MAZTUBEL_NOT_FINITE = 16,
     /* a size is above its limit */
     MAZTUBEL_TOO_LARGE = 17,
     /* lengths differ, or a buffer has no whole records */
-    MAZTUBEL_LENGTHS_DIFFER = 20
+    MAZTUBEL_LENGTHS_DIFFER = 20,
+    /* the bytes of a job or a model are malformed */
+    MAZTUBEL_MALFORMED = 29
 };
 
 /* The sine of x radians, within 2^-50 of document 01's sum S, for x from -800 to 800; else 17, also for a nan. */
@@ -51,6 +71,25 @@ uint32_t maztubel_arctangents(const double *ys, size_t ys_length, const double *
 
 /* The angle of each of the cosines cs. */
 uint32_t maztubel_arccosines(const double *cs, size_t cs_length, double *answers, size_t answers_length);
+
+/* ---- chains
+ *
+ * A chain is bytes, all numbers little-endian: its count of rotaries (1 or 2) in one byte, 7 zero bytes, a record of 72 bytes for
+ * each rotary, and the spindle axis as 3 doubles: 104 or 176 bytes. A record: the letter, the carrier (0 a table, 1 a head),
+ * whether it has limits (0 or 1), 5 zero bytes, axis and pivot as 3 doubles each, then the lower and the upper limit, +0.0 where
+ * it has none.
+ *
+ * Every call writes *at and *letter: with 3 to 9 the rotary's index, with 29 the offset of the first bad field (0 for a length
+ * that is not the count's), else 0. */
+
+/* Whether the chain can be served: 29, 3 to 9, 17 for a pivot beyond 100,000. */
+uint32_t maztubel_check_chain(const uint8_t *chain, size_t chain_length, uint64_t *at, uint8_t *letter);
+
+/* The tool's pose in the part frame, 6 doubles: the tip, then the unit axis from the tip toward the spindle. The joints are 5
+ * doubles: the gauge point's position, and an angle in degrees for each rotary, the second tested also where there is none. 20, 29,
+ * 14, 3 to 9, 16, then 17 for a position beyond 10,000,000, an angle beyond 36,000, a pivot or a tool length beyond 100,000. */
+uint32_t maztubel_forward(const uint8_t *chain, size_t chain_length, const double *joints, size_t joints_length,
+                          double tool_length, double *pose, size_t pose_length, uint64_t *at, uint8_t *letter);
 
 #ifdef __cplusplus
 }

@@ -1,3 +1,5 @@
 pub mod Answers
+pub mod Lent
+pub mod ChainEntries
 pub mod Steps
 pub mod Examples

@@ -2,7 +2,10 @@
 // every argument, with 0 or with a refusal's number, and its contract says what every lent number is afterwards.
 //
 // Sine, cosine, arctangent and arccosine, of one argument and of slices. A slice form tests every argument before it writes the
-// first answer, so that a refusal leaves the slice as it was.
+// first answer, so that a refusal leaves the slice as it was. The entries of a chain stand in chain_entries.
+mod chain_entries;
+mod lent;
+
 ghost use mathlib.Core.Path.{_≡_};
 ghost use mathlib.Core.Bool.{_&&_};
 ghost use mathlib.Core.List.{map};

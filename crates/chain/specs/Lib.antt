@@ -1,0 +1,6 @@
+-- `Bytes`, `ChainBytes`: a chain from its bytes. `Check`: the lists of checks. `Prepared`: a chain with unit axes. `Forward`: from joints to the tool's pose.
+pub mod Bytes
+pub mod ChainBytes
+pub mod Check
+pub mod Prepared
+pub mod Forward

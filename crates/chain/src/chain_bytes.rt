@@ -1,0 +1,223 @@
+// A chain from its bytes: the encoding that a job file and a caller of the library share. A breach is 29 with its offset; count and letters are handed on for the chain check.
+ghost use Prim.Native.Nat.{_+_, _*_, _≤_};
+ghost use mathlib.Core.Path.{_≡_};
+ghost use lib.ListN.{length};
+ghost use Rattle.chain.specs.ChainBytes as S;
+use crate::Carrier;
+use crate::ChainRead;
+use crate::Checked;
+use crate::Kinematics;
+use crate::RotaryJoint;
+use crate::RotaryLimits;
+use crate::Travel;
+use crate::bytes_at::byte_at;
+use crate::bytes_at::number_at;
+use crate::bytes_at::spare;
+use crate::bytes_at::vector_at;
+use crate::check::demand;
+use crate::check::one_or_two;
+use crate::check::then;
+use geometry::Vec3;
+use refusal::Refusal;
+
+// The first of n bytes that is not zero is refused.
+pub fn zeros(bytes: &[u8], at: usize, n: usize) -> Checked
+    requires { ⌜ at + n ≤ length (now bytes) ⌝ }
+    ensures { λ r. ⌜ r ≡ S.zeros (now (bytes .entry)) at n ⌝ }
+{
+    let end = at + n;
+    let mut i = at;
+    while i < end {
+        if bytes[i] != 0 {
+            return Checked::Refused(Refusal {
+                number: refusal::MALFORMED,
+                at: i as u64,
+                letter: 0,
+            });
+        }
+        i += 1;
+    }
+    Checked::Passed
+}
+
+// 0 or 1.
+fn flag(bytes: &[u8], at: usize) -> bool
+    ensures { λ r. ⌜ r ≡ S.flag (now (bytes .entry)) at ⌝ }
+{
+    byte_at(bytes, at) < 2
+}
+
+// What the bytes of a rotary's record must be, the letter aside.
+pub fn rotary_fields(bytes: &[u8], at: usize) -> Checked
+    requires { ⌜ at + 72 ≤ length (now bytes) ⌝ }
+    ensures { λ r. ⌜ r ≡ S.rotaryFields (now (bytes .entry)) at ⌝ }
+{
+    let carrier = demand(flag(bytes, at + 1), refusal::MALFORMED, (at + 1) as u64);
+    let limits = demand(flag(bytes, at + 2), refusal::MALFORMED, (at + 2) as u64);
+    let empty = zeros(bytes, at + 3, 5);
+    let min = demand(
+        spare(bytes, at + 2, at + 56),
+        refusal::MALFORMED,
+        (at + 56) as u64,
+    );
+    let max = demand(
+        spare(bytes, at + 2, at + 64),
+        refusal::MALFORMED,
+        (at + 64) as u64,
+    );
+    then(carrier, then(limits, then(empty, then(min, max))))
+}
+
+fn carrier_of(byte: u8) -> Carrier
+    ensures { λ r. ⌜ r ≡ S.carrierOf byte ⌝ }
+{
+    if byte == 0 {
+        return Carrier::Table;
+    }
+    Carrier::Head
+}
+
+fn travel_at(bytes: &[u8], at: usize) -> Travel
+    requires { ⌜ at + 72 ≤ length (now bytes) ⌝ }
+    ensures { λ r. ⌜ r ≡ S.travelAt (now (bytes .entry)) at ⌝ }
+{
+    if byte_at(bytes, at + 2) == 0 {
+        return Travel::Unlimited;
+    }
+    let min = number_at(bytes, at + 56);
+    let max = number_at(bytes, at + 64);
+    Travel::Within(RotaryLimits { min, max })
+}
+
+// The rotary whose record starts there.
+pub fn rotary_at(bytes: &[u8], at: usize) -> RotaryJoint
+    requires { ⌜ at + 72 ≤ length (now bytes) ⌝ }
+    ensures { λ r. ⌜ r ≡ S.rotaryAt (now (bytes .entry)) at ⌝ }
+{
+    let letter = byte_at(bytes, at);
+    let carrier = carrier_of(byte_at(bytes, at + 1));
+    let limits = travel_at(bytes, at);
+    let axis = vector_at(bytes, at + 8);
+    let pivot = vector_at(bytes, at + 32);
+    RotaryJoint {
+        letter,
+        carrier,
+        limits,
+        axis,
+        pivot,
+    }
+}
+
+// What stands for a rotary that is not there.
+fn no_rotary() -> RotaryJoint
+    ensures { λ r. ⌜ r ≡ S.noRotary ⌝ }
+{
+    let zero = Vec3 {
+        x: 0.0,
+        y: 0.0,
+        z: 0.0,
+    };
+    RotaryJoint {
+        letter: 0,
+        carrier: Carrier::Table,
+        limits: Travel::Unlimited,
+        axis: zero,
+        pivot: zero,
+    }
+}
+
+// A chain of that count and nothing else, for the chain check to refuse.
+fn no_chain(count: u8) -> Kinematics
+    ensures { λ r. ⌜ r ≡ S.noChain count ⌝ }
+{
+    let first = no_rotary();
+    let second = no_rotary();
+    let spindle_axis = Vec3 {
+        x: 0.0,
+        y: 0.0,
+        z: 0.0,
+    };
+    Kinematics {
+        count,
+        first,
+        second,
+        spindle_axis,
+    }
+}
+
+fn second_fields(bytes: &[u8], count: u8) -> Checked
+    requires { ⌜ 32 + 72 * count ≤ length (now bytes) ⌝ }
+    ensures { λ r. ⌜ r ≡ S.secondFields 72 (now (bytes .entry)) count ⌝ }
+{
+    if count == 2 {
+        return rotary_fields(bytes, 80);
+    }
+    Checked::Passed
+}
+
+fn second_at(bytes: &[u8], count: u8) -> RotaryJoint
+    requires { ⌜ 32 + 72 * count ≤ length (now bytes) ⌝ }
+    ensures { λ r. ⌜ r ≡ S.secondAt 72 (now (bytes .entry)) count ⌝ }
+{
+    if count == 2 {
+        return rotary_at(bytes, 80);
+    }
+    no_rotary()
+}
+
+// What the bytes of a chain of the right length must be.
+fn chain_fields(bytes: &[u8], count: u8) -> Checked
+    requires { ⌜ (1 ≤ count) × (32 + 72 * count ≤ length (now bytes)) ⌝ }
+    ensures { λ r. ⌜ r ≡ S.chainFields 72 (now (bytes .entry)) count ⌝ }
+{
+    let empty = zeros(bytes, 1, 7);
+    let first = rotary_fields(bytes, 8);
+    let second = second_fields(bytes, count);
+    then(empty, then(first, second))
+}
+
+fn chain_at(bytes: &[u8], count: u8) -> Kinematics
+    requires { ⌜ (1 ≤ count) × (32 + 72 * count ≤ length (now bytes)) ⌝ }
+    ensures { λ r. ⌜ r ≡ S.chainAt 72 (now (bytes .entry)) count ⌝ }
+{
+    let first = rotary_at(bytes, 8);
+    let second = second_at(bytes, count);
+    let spindle_axis = vector_at(bytes, 8 + 72 * count as usize);
+    Kinematics {
+        count,
+        first,
+        second,
+        spindle_axis,
+    }
+}
+
+fn malformed(at: u64) -> ChainRead
+    ensures { λ r. ⌜ r ≡ S.malformed at ⌝ }
+{
+    ChainRead::Refused(Refusal {
+        number: refusal::MALFORMED,
+        at,
+        letter: 0,
+    })
+}
+
+// The chain, or the first breach of its bytes.
+pub fn read_chain(bytes: &[u8]) -> ChainRead
+    ensures { λ r. ⌜ r ≡ S.readChain 72 (now (bytes .entry)) ⌝ }
+{
+    if bytes.len() < 1 {
+        return malformed(0);
+    }
+    let count = byte_at(bytes, 0);
+    if !one_or_two(count) {
+        return ChainRead::Chain(no_chain(count));
+    }
+    if bytes.len() != 32 + 72 * count as usize {
+        return malformed(0);
+    }
+    let checked = chain_fields(bytes, count);
+    if let Checked::Refused(r) = checked {
+        return ChainRead::Refused(r);
+    }
+    ChainRead::Chain(chain_at(bytes, count))
+}

@@ -1,0 +1,216 @@
+// The chain check, the size check, and what every call's list of checks is made of. A check answers; a list of checks answers with its first refusal.
+ghost use mathlib.Core.Path.{_≡_};
+ghost use Rattle.chain.specs.Check as S;
+use crate::Checked;
+use crate::Joints;
+use crate::Kinematics;
+use crate::RotaryJoint;
+use crate::RotaryLimits;
+use crate::Travel;
+use geometry::Direction;
+use geometry::Vec3;
+use refusal::Refusal;
+
+// Passed where `ok`, else refused with that number and place.
+pub fn demand(ok: bool, number: u32, at: u64) -> Checked
+    ensures { λ r. ⌜ r ≡ S.demand ok number at ⌝ }
+{
+    if ok {
+        return Checked::Passed;
+    }
+    Checked::Refused(Refusal {
+        number,
+        at,
+        letter: 0,
+    })
+}
+
+// The first refusal of the two.
+pub fn then(first: Checked, second: Checked) -> Checked
+    ensures { λ r. ⌜ r ≡ S.then first second ⌝ }
+{
+    let Checked::Refused(r) = first else {
+        return second;
+    };
+    Checked::Refused(r)
+}
+
+impl RotaryLimits {
+    // Whether the angle lies within, ends included.
+    pub fn contains(self, angle: f64) -> bool
+        ensures { λ r. ⌜ r ≡ S.contains self angle ⌝ }
+    {
+        if self.min <= angle {
+            return angle <= self.max;
+        }
+        false
+    }
+}
+
+// Two finite numbers, the first below the second.
+fn travel_good(travel: Travel) -> bool
+    ensures { λ r. ⌜ r ≡ S.travelGood travel ⌝ }
+{
+    let Travel::Within(l) = travel else {
+        return true;
+    };
+    if float::finite(l.min) {
+        if float::finite(l.max) {
+            return l.min < l.max;
+        }
+    }
+    false
+}
+
+pub fn has_direction(v: Vec3) -> bool
+    ensures { λ r. ⌜ r ≡ S.hasDirection v ⌝ }
+{
+    let Direction::Unit(_unit) = geometry::unit_direction(v) else {
+        return false;
+    };
+    true
+}
+
+// A, B or C.
+fn known_letter(letter: u8) -> bool
+    ensures { λ r. ⌜ r ≡ S.knownLetter letter ⌝ }
+{
+    if letter < 65 {
+        return false;
+    }
+    letter < 68
+}
+
+fn other_letter(letter: u8, earlier: u8) -> bool
+    ensures { λ r. ⌜ r ≡ S.otherLetter letter earlier ⌝ }
+{
+    letter != earlier
+}
+
+// One rotary, whole. `earlier` is the letter of the rotary before it, 0 where there is none.
+fn rotary_check(j: RotaryJoint, earlier: u8, index: u64) -> Checked
+    ensures { λ r. ⌜ r ≡ S.rotaryCheck j earlier index ⌝ }
+{
+    let known = demand(known_letter(j.letter), refusal::ROTARY_LETTER, index);
+    let other = demand(
+        other_letter(j.letter, earlier),
+        refusal::LETTER_TWICE,
+        index,
+    );
+    let finite_axis = demand(
+        geometry::all_finite(j.axis),
+        refusal::CHAIN_NOT_FINITE,
+        index,
+    );
+    let direction = demand(has_direction(j.axis), refusal::ROTARY_AXIS_ZERO, index);
+    let finite_pivot = demand(
+        geometry::all_finite(j.pivot),
+        refusal::CHAIN_NOT_FINITE,
+        index,
+    );
+    let limits = j.limits;
+    let travel = demand(travel_good(limits), refusal::LIMITS_REFUSED, index);
+    let placed = then(finite_axis, then(direction, then(finite_pivot, travel)));
+    then(known, then(other, placed))
+}
+
+fn second_check(k: Kinematics) -> Checked
+    ensures { λ r. ⌜ r ≡ S.secondCheck k ⌝ }
+{
+    if k.count == 2 {
+        let earlier = k.first;
+        return rotary_check(k.second, earlier.letter, 1);
+    }
+    Checked::Passed
+}
+
+pub fn one_or_two(count: u8) -> bool
+    ensures { λ r. ⌜ r ≡ S.oneOrTwo count ⌝ }
+{
+    if count < 1 {
+        return false;
+    }
+    count < 3
+}
+
+// The chain check of the Rust, but for name and model.
+pub fn chain_check(k: Kinematics) -> Checked
+    ensures { λ r. ⌜ r ≡ S.chainCheck k ⌝ }
+{
+    let count = demand(one_or_two(k.count), refusal::ROTARY_COUNT, 0);
+    let first = rotary_check(k.first, 0, 0);
+    let second = second_check(k);
+    let finite_spindle = demand(
+        geometry::all_finite(k.spindle_axis),
+        refusal::CHAIN_NOT_FINITE,
+        0,
+    );
+    let direction = demand(has_direction(k.spindle_axis), refusal::SPINDLE_ZERO, 0);
+    then(
+        count,
+        then(first, then(second, then(finite_spindle, direction))),
+    )
+}
+
+// No more than the limit in size.
+pub fn within(x: f64, limit: f64) -> bool
+    ensures { λ r. ⌜ r ≡ S.within x limit ⌝ }
+{
+    float::size(x) <= limit
+}
+
+pub fn all_within(v: Vec3, limit: f64) -> bool
+    ensures { λ r. ⌜ r ≡ S.allWithin v limit ⌝ }
+{
+    if within(v.x, limit) {
+        if within(v.y, limit) {
+            return within(v.z, limit);
+        }
+    }
+    false
+}
+
+// The pivots of the rotaries that the chain has.
+pub fn pivots_within(k: Kinematics) -> bool
+    ensures { λ r. ⌜ r ≡ S.pivotsWithin k ⌝ }
+{
+    let first = k.first;
+    let second = k.second;
+    if all_within(first.pivot, 100000.0) {
+        if k.count == 2 {
+            return all_within(second.pivot, 100000.0);
+        }
+        return true;
+    }
+    false
+}
+
+pub fn chain_sizes(k: Kinematics) -> Checked
+    ensures { λ r. ⌜ r ≡ S.chainSizes k ⌝ }
+{
+    demand(pivots_within(k), refusal::TOO_LARGE, 0)
+}
+
+// All five numbers, the unused angle too.
+pub fn joints_finite(j: Joints) -> bool
+    ensures { λ r. ⌜ r ≡ S.jointsFinite j ⌝ }
+{
+    if geometry::all_finite(j.xyz) {
+        if float::finite(j.a0) {
+            return float::finite(j.a1);
+        }
+    }
+    false
+}
+
+// Positions within 10,000,000, both angles within 36,000.
+pub fn joints_within(j: Joints) -> bool
+    ensures { λ r. ⌜ r ≡ S.jointsWithin j ⌝ }
+{
+    if all_within(j.xyz, 10000000.0) {
+        if within(j.a0, 36000.0) {
+            return within(j.a1, 36000.0);
+        }
+    }
+    false
+}

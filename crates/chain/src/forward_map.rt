@@ -1,0 +1,194 @@
+// The forward map: from the gauge point and the angles to the tool's tip and axis in the part frame. Heads move the tool, inner joint first; the part frame follows by turning the tables back, outer
+// joint first.
+ghost use mathlib.Core.Path.{_≡_};
+ghost use Rattle.chain.specs.Forward as S;
+use crate::Checked;
+use crate::Joints;
+use crate::Kinematics;
+use crate::Mount;
+use crate::Posed;
+use crate::Prepared;
+use crate::Spin;
+use crate::ToolPose;
+use crate::Turns;
+use crate::check::chain_check;
+use crate::check::demand;
+use crate::check::joints_finite;
+use crate::check::joints_within;
+use crate::check::pivots_within;
+use crate::check::then;
+use crate::check::within;
+use crate::prepare_chain::prepare;
+use geometry::Direction;
+use geometry::Turn;
+use geometry::Vec3;
+use refusal::Refusal;
+
+// How forward turns a rotary: a head by its angle, a table by the negated angle.
+fn swing(mount: Mount, angle: f64) -> Turn
+    ensures { λ r. ⌜ r ≡ S.swing mount angle ⌝ }
+{
+    match mount {
+        Mount::Table => Turn::of(-angle),
+        Mount::Head => Turn::of(angle),
+        Mount::Absent => Turn {
+            sine: 0.0,
+            cosine: 1.0,
+        },
+    }
+}
+
+pub fn turns_of(p: Prepared, a0: f64, a1: f64) -> Turns
+    ensures { λ r. ⌜ r ≡ S.turnsOf p a0 a1 ⌝ }
+{
+    let outer = p.first;
+    let inner = p.second;
+    let outer_mount = outer.mount;
+    let inner_mount = inner.mount;
+    let first = swing(outer_mount, a0);
+    let second = swing(inner_mount, a1);
+    Turns { first, second }
+}
+
+// A point moved by a rotary of the head; a table leaves it.
+pub fn head_point(s: Spin, turn: Turn, point: Vec3) -> Vec3
+    ensures { λ r. ⌜ r ≡ S.headPoint s turn point ⌝ }
+{
+    let mount = s.mount;
+    match mount {
+        Mount::Head => geometry::rotate_point(s.axis, s.pivot, point, turn),
+        Mount::Table => point,
+        Mount::Absent => point,
+    }
+}
+
+pub fn head_vector(s: Spin, turn: Turn, v: Vec3) -> Vec3
+    ensures { λ r. ⌜ r ≡ S.headVector s turn v ⌝ }
+{
+    let mount = s.mount;
+    match mount {
+        Mount::Head => geometry::rotate_vector(s.axis, v, turn),
+        Mount::Table => v,
+        Mount::Absent => v,
+    }
+}
+
+pub fn table_point(s: Spin, turn: Turn, point: Vec3) -> Vec3
+    ensures { λ r. ⌜ r ≡ S.tablePoint s turn point ⌝ }
+{
+    let mount = s.mount;
+    match mount {
+        Mount::Table => geometry::rotate_point(s.axis, s.pivot, point, turn),
+        Mount::Head => point,
+        Mount::Absent => point,
+    }
+}
+
+pub fn table_vector(s: Spin, turn: Turn, v: Vec3) -> Vec3
+    ensures { λ r. ⌜ r ≡ S.tableVector s turn v ⌝ }
+{
+    let mount = s.mount;
+    match mount {
+        Mount::Table => geometry::rotate_vector(s.axis, v, turn),
+        Mount::Head => v,
+        Mount::Absent => v,
+    }
+}
+
+// The tip, and the axis before it is normalised.
+fn reach(p: Prepared, turns: Turns, xyz: Vec3, tool_length: f64) -> ToolPose
+    ensures { λ r. ⌜ r ≡ S.reach p turns xyz «tool_length» ⌝ }
+{
+    let gauge = geometry::scale(p.spindle, -tool_length);
+    let inner = head_point(p.second, turns.second, gauge);
+    let machine = geometry::add(xyz, head_point(p.first, turns.first, inner));
+    let outer = table_point(p.first, turns.first, machine);
+    let tip = table_point(p.second, turns.second, outer);
+    let axis = reach_axis(p, turns);
+    ToolPose { tip, axis }
+}
+
+fn reach_axis(p: Prepared, turns: Turns) -> Vec3
+    ensures { λ r. ⌜ r ≡ S.reachAxis p turns ⌝ }
+{
+    let inner = head_vector(p.second, turns.second, p.spindle);
+    let machine = head_vector(p.first, turns.first, inner);
+    let outer = table_vector(p.first, turns.first, machine);
+    table_vector(p.second, turns.second, outer)
+}
+
+// Forward, total: where the reached axis has no direction it is the unit spindle.
+pub fn forward_core(p: Prepared, turns: Turns, xyz: Vec3, tool_length: f64) -> ToolPose
+    ensures { λ r. ⌜ r ≡ S.forwardCore p turns xyz «tool_length» ⌝ }
+{
+    let reached = reach(p, turns, xyz, tool_length);
+    let tip = reached.tip;
+    let axis = geometry::unit_or(reached.axis, p.spindle);
+    ToolPose { tip, axis }
+}
+
+// The gauge position that puts the tip on the wanted one: the difference of the two, in the machine frame. `forth` turns each table by its angle.
+pub fn position(p: Prepared, forth: Turns, tip: Vec3, tip0: Vec3) -> Vec3
+    ensures { λ r. ⌜ r ≡ S.position p forth tip tip0 ⌝ }
+{
+    let inner = table_vector(p.second, forth.second, geometry::sub(tip, tip0));
+    table_vector(p.first, forth.first, inner)
+}
+
+fn length_good(tool_length: f64) -> bool
+    ensures { λ r. ⌜ r ≡ S.lengthGood «tool_length» ⌝ }
+{
+    if float::finite(tool_length) {
+        return !(tool_length < 0.0);
+    }
+    false
+}
+
+fn forward_sizes(k: Kinematics, j: Joints, tool_length: f64) -> bool
+    ensures { λ r. ⌜ r ≡ S.forwardSizes k j «tool_length» ⌝ }
+{
+    if within(tool_length, 100000.0) {
+        if joints_within(j) {
+            return pivots_within(k);
+        }
+    }
+    false
+}
+
+fn forward_check(k: Kinematics, j: Joints, tool_length: f64) -> Checked
+    ensures { λ r. ⌜ r ≡ S.forwardCheck k j «tool_length» ⌝ }
+{
+    let length = demand(length_good(tool_length), refusal::TOOL_LENGTH, 0);
+    let chain = chain_check(k);
+    let finite = demand(joints_finite(j), refusal::NOT_FINITE, 0);
+    let sizes = demand(forward_sizes(k, j, tool_length), refusal::TOO_LARGE, 0);
+    then(length, then(chain, then(finite, sizes)))
+}
+
+// The reached pose with its unit axis.
+fn posed(reached: ToolPose) -> Posed
+    ensures { λ r. ⌜ r ≡ S.posed reached ⌝ }
+{
+    let tip = reached.tip;
+    let Direction::Unit(axis) = geometry::unit_direction(reached.axis) else {
+        return Posed::Refused(Refusal {
+            number: refusal::SPINDLE_ZERO,
+            at: 0,
+            letter: 0,
+        });
+    };
+    Posed::At(ToolPose { tip, axis })
+}
+
+// The tool pose in the part frame, or the first refusal.
+pub fn forward(k: Kinematics, j: Joints, tool_length: f64) -> Posed
+    ensures { λ r. ⌜ r ≡ S.forward k j «tool_length» ⌝ }
+{
+    let checked = forward_check(k, j, tool_length);
+    if let Checked::Refused(r) = checked {
+        return Posed::Refused(r);
+    }
+    let p = prepare(k);
+    let turns = turns_of(p, j.a0, j.a1);
+    posed(reach(p, turns, j.xyz, tool_length))
+}

@@ -1,0 +1,132 @@
+// The rotary chain: one or two rotaries and the spindle, its bytes, its checks, and the forward map (impl Kinematics of the Rust). A chain goes in by value. What computes is total; what refuses is one list
+// of checks for each call (specs/Check.antt).
+mod bytes_at;
+mod chain_bytes;
+mod check;
+mod forward_map;
+mod prepare_chain;
+
+pub use bytes_at::byte_at;
+pub use bytes_at::number_at;
+pub use bytes_at::number_of;
+pub use bytes_at::spare;
+pub use bytes_at::u16_at;
+pub use bytes_at::vector_at;
+pub use bytes_at::word_at;
+pub use chain_bytes::read_chain;
+pub use chain_bytes::rotary_at;
+pub use chain_bytes::rotary_fields;
+pub use chain_bytes::zeros;
+pub use check::all_within;
+pub use check::chain_check;
+pub use check::chain_sizes;
+pub use check::demand;
+pub use check::has_direction;
+pub use check::joints_finite;
+pub use check::joints_within;
+pub use check::pivots_within;
+pub use check::then;
+pub use check::within;
+pub use forward_map::forward;
+pub use forward_map::forward_core;
+pub use forward_map::head_point;
+pub use forward_map::head_vector;
+pub use forward_map::position;
+pub use forward_map::table_point;
+pub use forward_map::table_vector;
+pub use forward_map::turns_of;
+use geometry::Turn;
+use geometry::Vec3;
+pub use prepare_chain::prepare;
+use refusal::Refusal;
+
+// Which slide carries a rotary: a table turns the work, a head the tool.
+pub enum Carrier {
+    Table,
+    Head,
+}
+
+// Travel limits in degrees, both ends within.
+pub struct RotaryLimits {
+    pub min: f64,
+    pub max: f64,
+}
+
+pub enum Travel {
+    Unlimited,
+    Within(RotaryLimits),
+}
+
+// A pivot is a point on the axis: of a table in machine coordinates at zero angles, of a head relative to the gauge point at zero head angles.
+pub struct RotaryJoint {
+    pub letter: u8,
+    pub carrier: Carrier,
+    pub limits: Travel,
+    pub axis: Vec3,
+    pub pivot: Vec3,
+}
+
+// Outer joints first within each carrier. `second` is read only where `count` is 2.
+pub struct Kinematics {
+    pub count: u8,
+    pub first: RotaryJoint,
+    pub second: RotaryJoint,
+    pub spindle_axis: Vec3,
+}
+
+// The gauge point's position, and an angle for each rotary, in degrees.
+pub struct Joints {
+    pub xyz: Vec3,
+    pub a0: f64,
+    pub a1: f64,
+}
+
+// The tool's tip, and its axis from the tip toward the spindle, in the part frame.
+pub struct ToolPose {
+    pub tip: Vec3,
+    pub axis: Vec3,
+}
+
+// What a check answers.
+pub enum Checked {
+    Passed,
+    Refused(Refusal),
+}
+
+// How a prepared rotary moves: the second rotary of a chain of one is absent.
+pub enum Mount {
+    Table,
+    Head,
+    Absent,
+}
+
+// A rotary with its unit axis.
+pub struct Spin {
+    pub mount: Mount,
+    pub axis: Vec3,
+    pub pivot: Vec3,
+}
+
+// A checked chain with every axis normalised, once for a call.
+pub struct Prepared {
+    pub first: Spin,
+    pub second: Spin,
+    pub spindle: Vec3,
+}
+
+// For each rotary the turn by which `forward` moves it: a head forth, a table back.
+pub struct Turns {
+    pub first: Turn,
+    pub second: Turn,
+}
+
+pub enum Posed {
+    At(ToolPose),
+    Refused(Refusal),
+}
+
+// What a chain's bytes hold.
+pub enum ChainRead {
+    Chain(Kinematics),
+    Refused(Refusal),
+}
