@@ -18,6 +18,10 @@ extern "C" {
 
 enum {
     MAZTUBEL_SERVED = 0,
+    /* a name is empty */
+    MAZTUBEL_NAME_EMPTY = 1,
+    /* a name has more than 256 bytes */
+    MAZTUBEL_NAME_TOO_LONG = 2,
     /* there are not 1 or 2 rotaries */
     MAZTUBEL_ROTARY_COUNT = 3,
     /* a rotary's letter is not A, B or C */
@@ -32,6 +36,14 @@ enum {
     MAZTUBEL_LIMITS_REFUSED = 8,
     /* the spindle's axis is zero */
     MAZTUBEL_SPINDLE_ZERO = 9,
+    /* a model has more than 64 links */
+    MAZTUBEL_TOO_MANY_LINKS = 10,
+    /* two links have one name */
+    MAZTUBEL_LINK_NAME_TWICE = 11,
+    /* a link's carrier is unknown */
+    MAZTUBEL_CARRIER_UNKNOWN = 12,
+    /* a link's solid is bad */
+    MAZTUBEL_SOLID_BAD = 13,
     /* the tool length is refused */
     MAZTUBEL_TOOL_LENGTH = 14,
     /* a joint, a hint or a tip is not finite */
@@ -90,6 +102,33 @@ uint32_t maztubel_check_chain(const uint8_t *chain, size_t chain_length, uint64_
  * 14, 3 to 9, 16, then 17 for a position beyond 10,000,000, an angle beyond 36,000, a pivot or a tool length beyond 100,000. */
 uint32_t maztubel_forward(const uint8_t *chain, size_t chain_length, const double *joints, size_t joints_length,
                           double tool_length, double *pose, size_t pose_length, uint64_t *at, uint8_t *letter);
+
+/* ---- models
+ *
+ * A model is bytes, links to their end: a name and a carrier, each a u16 length and its bytes; a kind, 0 a box and 1 a cylinder; 8
+ * doubles. A box has two corners, its last two doubles are +0.0; a cylinder has base, axis, radius and length. A carrier is one
+ * of "base", "table" and "head", or the letter of a rotary. No bytes are a model without links.
+ *
+ * Chain and model are read whole before any check: 29 with an offset in the chain's bytes, then 29 with one in the model's. With 10
+ * to 13 *at is the link's index, 0 for 10 and for a carrier that was asked for. `name` is the chain's, 1 to 256 bytes. */
+
+/* Whether chain and model can be served: 29, 1 and 2 for the chain's name, 3 to 9, 10, then for each link in order 1, 2, 11, 12,
+ * 13, and 17 for a pivot beyond 100,000. */
+uint32_t maztubel_check_model(const uint8_t *name, size_t name_length, const uint8_t *chain, size_t chain_length,
+                              const uint8_t *model, size_t model_length, uint64_t *at, uint8_t *letter);
+
+/* The frame of what a carrier names, at the given joints, in the machine: 12 doubles, the origin and then the three axes. The joints
+ * are those of maztubel_forward. 20, then the check's numbers but 17, then 16, 12 for the carrier that was asked for, 17. */
+uint32_t maztubel_link_world(const uint8_t *name, size_t name_length, const uint8_t *chain, size_t chain_length,
+                             const uint8_t *model, size_t model_length, const double *joints, size_t joints_length,
+                             const uint8_t *carrier, size_t carrier_length, double *frame, size_t frame_length, uint64_t *at,
+                             uint8_t *letter);
+
+/* The same frame, seen from the part: the inverse of the table's frame, then it. */
+uint32_t maztubel_link_in_part(const uint8_t *name, size_t name_length, const uint8_t *chain, size_t chain_length,
+                               const uint8_t *model, size_t model_length, const double *joints, size_t joints_length,
+                               const uint8_t *carrier, size_t carrier_length, double *frame, size_t frame_length, uint64_t *at,
+                               uint8_t *letter);
 
 #ifdef __cplusplus
 }

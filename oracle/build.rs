@@ -17,6 +17,16 @@ const CALLS: [&str; 4] = [".sin_cos(", ".sin(", ".acos(", ".atan2("];
 /// How many lines of kinematics.rs have such a call.
 const LINES_WITH_CALLS: usize = 9;
 
+/// Stands behind the copies of rotary.rs, whose own text stays: limits that `RotaryLimits::new` would refuse. The Rust gets such
+/// limits from JSON, and `Kinematics::check` is what refuses them.
+const UNCHECKED_LIMITS: &str = "
+impl RotaryLimits {
+    pub(crate) fn unchecked(min_deg: f64, max_deg: f64) -> Self {
+        Self { min_deg, max_deg }
+    }
+}
+";
+
 fn main() {
     let root = Path::new(env!("CARGO_MANIFEST_DIR"));
     link_archives(&root.join("../target/staticlib"));
@@ -54,10 +64,10 @@ fn copy(name: &str, sources: &Path, out: &Path, change: fn(&str) -> String) {
     for file in FILES {
         let text = fs::read_to_string(sources.join(format!("{file}.rs")))
             .unwrap_or_else(|error| panic!("{file}.rs of the Rust cannot be read: {error}"));
-        let text = if file == "kinematics" {
-            change(&text)
-        } else {
-            text
+        let text = match file {
+            "kinematics" => change(&text),
+            "rotary" => text + UNCHECKED_LIMITS,
+            _ => text,
         };
         let text = text.replace("crate::", &format!("crate::original::{name}::"));
         let copied = folder.join(format!("{file}.rs"));

@@ -110,12 +110,13 @@ pub fn within(most: f64, random: &mut Random) -> f64 {
     signed(part * most, random)
 }
 
-fn signed(x: f64, random: &mut Random) -> f64 {
+/// Of either sign.
+pub fn signed(x: f64, random: &mut Random) -> f64 {
     if random.below(2) == 0 { x } else { -x }
 }
 
 /// At most `places` away, either way.
-fn moved(x: f64, places: u64, random: &mut Random) -> f64 {
+pub fn moved(x: f64, places: u64, random: &mut Random) -> f64 {
     let away = random.below(2 * places + 1);
     f64::from_bits(x.to_bits().wrapping_add(away).wrapping_sub(places))
 }

@@ -1,12 +1,28 @@
 //! What the comparisons share: the proved functions as Rust can call them, the doubles to try them on with the generator
-//! behind those, sums in more digits than a double has, and the Rust that is compared where it stands beside the repository.
+//! behind those, sums in more digits than a double has, chains and models with their bytes, and the Rust that is compared where
+//! it stands beside the repository, with what it and document 01 say that an export must answer.
 
 pub mod angles;
+#[cfg(original)]
+pub mod calls;
+pub mod cases;
+pub mod chains;
 pub mod exact;
 pub mod floats;
+pub mod joints;
+pub mod lean;
 pub mod maztubel;
+pub mod models;
+pub mod numbers;
 #[cfg(original)]
 pub mod original;
 pub mod parts;
 pub mod probe;
 pub mod random;
+pub mod reading;
+#[cfg(original)]
+pub mod reference;
+#[cfg(original)]
+pub mod rust;
+#[cfg(original)]
+pub mod tally;

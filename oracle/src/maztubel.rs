@@ -24,6 +24,65 @@ unsafe extern "C" {
         answers: *mut f64,
         room: usize,
     ) -> u32;
+    fn maztubel_check_chain(
+        chain: *const u8,
+        chain_length: usize,
+        at: &mut u64,
+        letter: &mut u8,
+    ) -> u32;
+    fn maztubel_check_model(
+        name: *const u8,
+        name_length: usize,
+        chain: *const u8,
+        chain_length: usize,
+        model: *const u8,
+        model_length: usize,
+        at: &mut u64,
+        letter: &mut u8,
+    ) -> u32;
+    fn maztubel_forward(
+        chain: *const u8,
+        chain_length: usize,
+        joints: *const f64,
+        joints_length: usize,
+        tool_length: f64,
+        pose: *mut f64,
+        pose_length: usize,
+        at: &mut u64,
+        letter: &mut u8,
+    ) -> u32;
+    fn maztubel_link_world(
+        name: *const u8,
+        name_length: usize,
+        chain: *const u8,
+        chain_length: usize,
+        model: *const u8,
+        model_length: usize,
+        joints: *const f64,
+        joints_length: usize,
+        carrier: *const u8,
+        carrier_length: usize,
+        frame: *mut f64,
+        frame_length: usize,
+        at: &mut u64,
+        letter: &mut u8,
+    ) -> u32;
+    fn maztubel_link_in_part(
+        name: *const u8,
+        name_length: usize,
+        chain: *const u8,
+        chain_length: usize,
+        model: *const u8,
+        model_length: usize,
+        joints: *const f64,
+        joints_length: usize,
+        carrier: *const u8,
+        carrier_length: usize,
+        frame: *mut f64,
+        frame_length: usize,
+        at: &mut u64,
+        letter: &mut u8,
+    ) -> u32;
 }
 
 pub fn sine(x: f64) -> Result<f64, u32> {
@@ -72,6 +131,118 @@ pub fn arctangents(ys: &[f64], xs: &[f64], answers: &mut [f64]) -> u32 {
             xs.len(),
             answers.as_mut_ptr(),
             answers.len(),
+        )
+    }
+}
+
+/// What the model check and the link frames are lent of a machine: its name, its chain and its model, in bytes.
+#[derive(Clone, Copy)]
+pub struct Machine<'a> {
+    pub name: &'a [u8],
+    pub chain: &'a [u8],
+    pub model: &'a [u8],
+}
+
+/// `link_world` or `link_in_part`.
+pub type FrameOf = fn(Machine, &[f64], &[u8], &mut [f64], &mut u64, &mut u8) -> u32;
+
+pub fn check_chain(chain: &[u8], at: &mut u64, letter: &mut u8) -> u32 {
+    unsafe { maztubel_check_chain(chain.as_ptr(), chain.len(), at, letter) }
+}
+
+pub fn check_model(machine: Machine, at: &mut u64, letter: &mut u8) -> u32 {
+    let Machine { name, chain, model } = machine;
+    unsafe {
+        maztubel_check_model(
+            name.as_ptr(),
+            name.len(),
+            chain.as_ptr(),
+            chain.len(),
+            model.as_ptr(),
+            model.len(),
+            at,
+            letter,
+        )
+    }
+}
+
+pub fn forward(
+    chain: &[u8],
+    joints: &[f64],
+    tool_length: f64,
+    pose: &mut [f64],
+    at: &mut u64,
+    letter: &mut u8,
+) -> u32 {
+    unsafe {
+        maztubel_forward(
+            chain.as_ptr(),
+            chain.len(),
+            joints.as_ptr(),
+            joints.len(),
+            tool_length,
+            pose.as_mut_ptr(),
+            pose.len(),
+            at,
+            letter,
+        )
+    }
+}
+
+pub fn link_world(
+    machine: Machine,
+    joints: &[f64],
+    carrier: &[u8],
+    frame: &mut [f64],
+    at: &mut u64,
+    letter: &mut u8,
+) -> u32 {
+    let Machine { name, chain, model } = machine;
+    unsafe {
+        maztubel_link_world(
+            name.as_ptr(),
+            name.len(),
+            chain.as_ptr(),
+            chain.len(),
+            model.as_ptr(),
+            model.len(),
+            joints.as_ptr(),
+            joints.len(),
+            carrier.as_ptr(),
+            carrier.len(),
+            frame.as_mut_ptr(),
+            frame.len(),
+            at,
+            letter,
+        )
+    }
+}
+
+pub fn link_in_part(
+    machine: Machine,
+    joints: &[f64],
+    carrier: &[u8],
+    frame: &mut [f64],
+    at: &mut u64,
+    letter: &mut u8,
+) -> u32 {
+    let Machine { name, chain, model } = machine;
+    unsafe {
+        maztubel_link_in_part(
+            name.as_ptr(),
+            name.len(),
+            chain.as_ptr(),
+            chain.len(),
+            model.as_ptr(),
+            model.len(),
+            joints.as_ptr(),
+            joints.len(),
+            carrier.as_ptr(),
+            carrier.len(),
+            frame.as_mut_ptr(),
+            frame.len(),
+            at,
+            letter,
         )
     }
 }

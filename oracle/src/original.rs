@@ -1,5 +1,6 @@
 //! The Rust that is compared, built as it stands twice: `untouched`, and `ported`, in which the calls of `sin_cos`, `sin`,
-//! `acos` and `atan2` in kinematics.rs go to the exports and nothing else changes. The build script writes both.
+//! `acos` and `atan2` in kinematics.rs go to the exports and nothing else changes. The build script writes both, and puts behind
+//! each a constructor of limits that are not checked.
 
 use crate::maztubel;
 use std::fmt;

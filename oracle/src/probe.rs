@@ -29,6 +29,13 @@ unsafe extern "C" {
     pub safe fn sine_cosine(x: f64, sine: &mut f64, cosine: &mut f64) -> u32;
     safe fn probe_total_cmp(x: f64, y: f64) -> u32;
     fn probe_roots(xs: *const f64, count: usize, answers: *mut f64, room: usize);
+    fn probe_forwards(
+        chain: *const u8,
+        bytes: usize,
+        joints: *const f64,
+        count: usize,
+        tool_length: f64,
+    ) -> f64;
 }
 
 pub fn total_cmp(x: f64, y: f64) -> Ordering {
@@ -44,4 +51,19 @@ pub fn total_cmp(x: f64, y: f64) -> Ordering {
 pub fn roots(xs: &[f64], answers: &mut [f64]) {
     // SAFETY: each pointer goes with its own length, and the two slices do not overlap.
     unsafe { probe_roots(xs.as_ptr(), xs.len(), answers.as_mut_ptr(), answers.len()) }
+}
+
+/// The sum of all the numbers of the poses that forward's inner form gives for each record of five `joints`, on a chain that is
+/// prepared once.
+pub fn forwards(chain: &[u8], joints: &[f64], tool_length: f64) -> f64 {
+    // SAFETY: each pointer goes with its own length.
+    unsafe {
+        probe_forwards(
+            chain.as_ptr(),
+            chain.len(),
+            joints.as_ptr(),
+            joints.len(),
+            tool_length,
+        )
+    }
 }

@@ -29,13 +29,25 @@ use Rattle.chain.specs.Check.{demand, firstRefusal, chainCheck, within, 
 use Rattle.chain.specs.Prepared.{prepared}
 
 -- ---- the turns
+abbrev pub still : Turn
+still = record { sine = nought; cosine = one }
+
 abbrev pub swing : Mount → Float → Turn
 swing Table angle = turnOf (Ieee.neg angle)
 swing Head angle = turnOf angle
-swing Absent angle = record { sine = nought; cosine = one }
+swing Absent angle = still
 
 unfoldable pub turnsOf : Prepared → Float → Float → Turns
 turnsOf p a0 a1 = record { first = swing (p .first .mount) a0; second = swing (p .second .mount) a1 }
+
+-- the tables forth, for the position
+abbrev pub swingForth : Mount → Float → Turn
+swingForth Table angle = turnOf angle
+swingForth Head angle = still
+swingForth Absent angle = still
+
+unfoldable pub tablesForth : Prepared → Float → Float → Turns
+tablesForth p a0 a1 = record { first = swingForth (p .first .mount) a0; second = swingForth (p .second .mount) a1 }
 
 -- ---- one rotary: a head moves what is on the tool side, a table what is on the part side
 abbrev pub byHead : {A : Type 0} → Mount → A → A → A

@@ -1,6 +1,7 @@
--- `Bytes`, `ChainBytes`: a chain from its bytes. `Check`: the lists of checks. `Prepared`: a chain with unit axes. `Forward`: from joints to the tool's pose.
+-- `Bytes`, `ChainBytes`: a chain from its bytes. `Check`: the lists of checks. `Prepared`: a chain with unit axes. `Forward`: from joints to the tool's pose. `Examples`: chain bytes, worked out.
 pub mod Bytes
 pub mod ChainBytes
 pub mod Check
 pub mod Prepared
 pub mod Forward
+pub mod Examples

@@ -31,9 +31,11 @@ pub use forward_map::forward;
 pub use forward_map::forward_core;
 pub use forward_map::head_point;
 pub use forward_map::head_vector;
+pub use forward_map::length_good;
 pub use forward_map::position;
 pub use forward_map::table_point;
 pub use forward_map::table_vector;
+pub use forward_map::tables_forth;
 pub use forward_map::turns_of;
 use geometry::Turn;
 use geometry::Vec3;
@@ -114,7 +116,7 @@ pub struct Prepared {
     pub spindle: Vec3,
 }
 
-// For each rotary the turn by which `forward` moves it: a head forth, a table back.
+// For each rotary its turn: by which `forward` moves it, a head forth, a table back (turns_of); or a table forth, as the position needs it (tables_forth).
 pub struct Turns {
     pub first: Turn,
     pub second: Turn,

@@ -1,5 +1,6 @@
 pub mod Answers
 pub mod Lent
 pub mod ChainEntries
+pub mod LinkEntries
 pub mod Steps
 pub mod Examples

@@ -2,9 +2,11 @@
 // every argument, with 0 or with a refusal's number, and its contract says what every lent number is afterwards.
 //
 // Sine, cosine, arctangent and arccosine, of one argument and of slices. A slice form tests every argument before it writes the
-// first answer, so that a refusal leaves the slice as it was. The entries of a chain stand in chain_entries.
+// first answer, so that a refusal leaves the slice as it was. The entries of a chain stand in chain_entries, those of a model in
+// link_entries.
 mod chain_entries;
 mod lent;
+mod link_entries;
 
 ghost use mathlib.Core.Path.{_≡_};
 ghost use mathlib.Core.Bool.{_&&_};
@@ -106,6 +108,12 @@ pub extern "C" fn maztubel_arctangents(ys: &[f64], xs: &[f64], answers: &mut [f6
         k += 1;
     }
     0
+}
+
+// The frame that a link is placed in: one path serves both entries.
+enum Seen {
+    World,
+    Part,
 }
 
 // The functions of one argument, so that one pair of loops serves their slice forms.

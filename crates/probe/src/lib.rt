@@ -1,4 +1,6 @@
-// Only for tests: functions under C names that the static library does not export, so that the Rust in oracle/ can call what was proved and hold it to the standard library: those of `float`, and `sine_cosine` of `trig`. Nothing else may be built on it.
+// Only for tests: functions under C names that the static library does not export, so that the Rust in oracle/ can call what was proved and hold it to the standard library: those of `float`, `sine_cosine` of `trig`, and the inner form of `chain`'s forward. Nothing else may be built on it.
+mod forwards;
+
 ghost use Prim.Native.Nat.{min};
 ghost use mathlib.Core.Path.{_≡_};
 ghost use lib.Ieee.Scale.{finite as isFinite};

@@ -1,7 +1,6 @@
-use Prim.Native.Nat.{_+_, _-_, _≤_}
+use Prim.Native.Nat.{_-_, _≤_}
 use native.Mathlib.Omega.{arith}
-use mathlib.Core.Path.{_≡_, refl, sym, ap, _∙_}
-use lib.ListN.{length}
+use mathlib.Core.Path.{_≡_, sym, _∙_}
 use Rattle.chain.specs.ChainBytes.{zeros}
 use Rattle.chain.proofs.Bytes.{zeros-start, zeros-more, zeros-found, zeros-end}
 use Rattle.chain.proofs.chain_bytes.zeros.Statement.{statement}

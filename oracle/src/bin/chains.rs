@@ -1,0 +1,66 @@
+//! Compares the exported chain check, forward, model check and link frames with the Rust, whose sine, cosine, arctangent and
+//! arccosine are the exported ones, and with document 01 where it adds to the Rust:
+//!
+//!     chains [SEED] [MILLIONS]
+//!
+//! on MILLIONS (6) million chains with joints, and 60,000 models for each million. Every answer is compared: the number, the
+//! index or offset, the letter, and each lent number bit for bit. Prints how often each refusal was met, the first differences,
+//! and the largest distances from the Rust with libm. Ends with status 1 where there is a difference.
+
+use std::process::ExitCode;
+
+#[cfg(original)]
+fn main() -> ExitCode {
+    use comparison::{FEWEST, PARTS, compare_part};
+    use oracle::parts::{argument, shared_out};
+    use oracle::tally::Tally;
+    let seed = argument(1, 1);
+    let millions = argument(2, 6);
+    println!(
+        "seed {seed}, {millions} million chains, {} models",
+        60_000 * millions
+    );
+    let parts = millions * PARTS;
+    let mut total = Tally::default();
+    for tally in shared_out(seed, parts, Tally::default, compare_part) {
+        total.add(tally);
+    }
+    total.print(parts * FEWEST)
+}
+
+#[cfg(not(original))]
+fn main() -> ExitCode {
+    println!("the Rust that is compared is not beside this repository");
+    ExitCode::from(2)
+}
+
+#[cfg(original)]
+mod comparison {
+    use oracle::calls::ask;
+    use oracle::cases::{Case, Entry};
+    use oracle::random::Random;
+    use oracle::tally::Tally;
+
+    /// How many parts a million has, and what is compared in each.
+    pub const PARTS: u64 = 10;
+    const CHAINS: usize = 100_000;
+    const MODELS: usize = 6_000;
+
+    /// How often each answer of each entry must be met in a part, on the average.
+    pub const FEWEST: u64 = 10;
+
+    pub fn compare_part(tally: &mut Tally, random: &mut Random) {
+        for _ in 0..CHAINS {
+            let case = Case::of_chain(random);
+            for entry in Entry::OF_CHAINS {
+                tally.compare(entry, &case, &ask(entry, &case));
+            }
+        }
+        for _ in 0..MODELS {
+            let case = Case::of_model(random);
+            for entry in Entry::OF_MODELS {
+                tally.compare(entry, &case, &ask(entry, &case));
+            }
+        }
+    }
+}

@@ -1,0 +1,103 @@
+//! A call of an export, and what is expected of it: the number, what a refusal names, and every number that was lent, between
+//! guards that no call may write to.
+
+use crate::cases::{Case, Entry};
+use crate::maztubel;
+use crate::reference::Answer;
+use std::fmt;
+
+/// How many numbers stand before and behind what is lent.
+pub const GUARD: usize = 4;
+
+/// What stands in each lent number before a call: a nan with digits of its own.
+pub const LENT: u64 = 0x7FF8_0123_4567_89AB;
+/// The same in the slots for an index or an offset, and for a letter.
+pub const LENT_AT: u64 = 0x0123_4567_89AB_CDEF;
+pub const LENT_LETTER: u8 = 0xA5;
+
+/// What a call answered, and what stood afterwards in all that it was lent, the guards too.
+#[derive(Clone, Debug, PartialEq)]
+pub struct Told {
+    pub number: u32,
+    pub at: [u64; 3],
+    pub letter: [u8; 3],
+    pub numbers: Vec<u64>,
+}
+
+/// Bits, but for the number and the index or offset.
+impl fmt::Display for Told {
+    fn fmt(&self, f: &mut fmt::Formatter<'_>) -> fmt::Result {
+        let Told {
+            number,
+            at: [before, at, behind],
+            letter,
+            numbers,
+        } = self;
+        let numbers: Vec<String> = numbers.iter().map(|bits| format!("{bits:016X}")).collect();
+        write!(f, "number {number}, at {before:X} {at} {behind:X}, ")?;
+        write!(f, "letter {letter:X?}, lent [{}]", numbers.join(" "))
+    }
+}
+
+/// Calls the export.
+pub fn ask(entry: Entry, case: &Case) -> Told {
+    let mut at = [LENT_AT; 3];
+    let mut letter = [LENT_LETTER; 3];
+    let mut numbers = vec![f64::from_bits(LENT); room(entry, case)];
+    let (at_slot, letter_slot) = (&mut at[1], &mut letter[1]);
+    let end = numbers.len() - GUARD;
+    let lent = &mut numbers[GUARD..end];
+    let number = match entry {
+        Entry::CheckChain => maztubel::check_chain(&case.chain, at_slot, letter_slot),
+        Entry::CheckModel => maztubel::check_model(case.machine(), at_slot, letter_slot),
+        Entry::Forward => maztubel::forward(
+            &case.chain,
+            &case.joints,
+            case.tool_length,
+            lent,
+            at_slot,
+            letter_slot,
+        ),
+        Entry::LinkWorld | Entry::LinkInPart => {
+            let frame_of: maztubel::FrameOf = match entry {
+                Entry::LinkWorld => maztubel::link_world,
+                _ => maztubel::link_in_part,
+            };
+            let (joints, carrier) = (&case.joints, &case.carrier);
+            frame_of(case.machine(), joints, carrier, lent, at_slot, letter_slot)
+        }
+    };
+    Told {
+        number,
+        at,
+        letter,
+        numbers: numbers.iter().map(|x| x.to_bits()).collect(),
+    }
+}
+
+/// What the call tells where it answers as it must.
+pub fn telling(entry: Entry, case: &Case, answer: &Answer) -> Told {
+    let mut numbers = vec![LENT; room(entry, case)];
+    let (number, at) = match answer {
+        Ok(answers) => {
+            let bits = answers.iter().map(|x| x.to_bits());
+            numbers.splice(GUARD..numbers.len() - GUARD, bits);
+            (0, 0)
+        }
+        Err(refusal) => (refusal.number, refusal.at),
+    };
+    Told {
+        number,
+        at: [LENT_AT, at, LENT_AT],
+        letter: [LENT_LETTER, 0, LENT_LETTER],
+        numbers,
+    }
+}
+
+/// The lent numbers with their guards. A check is lent none.
+fn room(entry: Entry, case: &Case) -> usize {
+    match entry {
+        Entry::CheckChain | Entry::CheckModel => 2 * GUARD,
+        _ => GUARD + case.room + GUARD,
+    }
+}

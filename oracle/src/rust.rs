@@ -1,0 +1,160 @@
+//! The Rust on plain numbers: a chain and links, as read from their bytes, become its structs, and its answers become numbers
+//! again. Once for each of its two builds, whose types are not the same.
+//!
+//! Names are bytes here and texts there. The Rust asks of a name only whether it is empty, how long it is and whether it is equal
+//! to another, so each has a stand-in of which all three are the same, and which a refusal's words can quote without harm.
+
+use crate::chains::Chain;
+use crate::models::Link;
+
+/// A machine as its bytes were read.
+pub struct Machine<'a> {
+    pub name_length: usize,
+    pub chain: &'a Chain,
+    pub links: &'a [Link],
+}
+
+/// The name of the chain in the Rust.
+pub fn chain_name(length: usize) -> String {
+    "n".repeat(length)
+}
+
+fn link_names(links: &[Link]) -> Vec<String> {
+    links.iter().map(|link| stand_in(link, links)).collect()
+}
+
+/// As many bytes as the name has, and others for another name, as far as the Rust reads them: it refuses 65 links unread. No
+/// stand-in has the mark that a refusal's words put around a name.
+fn stand_in(link: &Link, links: &[Link]) -> String {
+    let Some(rest) = link.name.len().checked_sub(1) else {
+        return String::new();
+    };
+    let before = links.iter().take_while(|other| other.name != link.name);
+    let letter = b'!' + (before.count() % 64) as u8;
+    let letter = if letter < b'`' { letter } else { letter + 1 };
+    format!("{}{}", char::from(letter), "n".repeat(rest))
+}
+
+macro_rules! on_plain_numbers {
+    ($build:ident) => {
+        pub mod $build {
+            use super::{Link, Machine, chain_name, link_names};
+            use crate::chains::Rotary;
+            use crate::models::BOX;
+            use crate::original::IrError;
+            use crate::original::$build::geom::Vec3;
+            use crate::original::$build::kinematics::*;
+            use crate::original::$build::rotary::RotaryLimits;
+
+            /// The Rust's answer in numbers, or its words.
+            pub type Told<T> = Result<T, String>;
+
+            pub fn kinematics(machine: &Machine) -> Kinematics {
+                Kinematics {
+                    name: chain_name(machine.name_length),
+                    rotaries: machine.chain.present().map(joint).collect(),
+                    spindle_axis: vector(&machine.chain.spindle),
+                    model: (!machine.links.is_empty()).then(|| model(machine.links)),
+                }
+            }
+
+            fn vector(numbers: &[f64]) -> Vec3 {
+                Vec3::from_xyz(numbers[0], numbers[1], numbers[2])
+            }
+
+            fn joint(rotary: &Rotary) -> RotaryJoint {
+                let [min, max] = rotary.limits;
+                RotaryJoint {
+                    letter: char::from(rotary.letter),
+                    carrier: match rotary.carrier {
+                        0 => Carrier::Table,
+                        _ => Carrier::Head,
+                    },
+                    axis: vector(&rotary.axis),
+                    pivot: vector(&rotary.pivot),
+                    limits: (rotary.limited == 1).then(|| RotaryLimits::unchecked(min, max)),
+                }
+            }
+
+            fn model(links: &[Link]) -> MachineModel {
+                let link = |(link, name): (&Link, String)| MachineLink {
+                    name,
+                    carrier: String::from_utf8_lossy(&link.carrier).into_owned(),
+                    solid: solid(link),
+                };
+                MachineModel {
+                    links: links.iter().zip(link_names(links)).map(link).collect(),
+                }
+            }
+
+            fn solid(link: &Link) -> LinkSolid {
+                let numbers = &link.numbers;
+                let (first, second) = (vector(&numbers[..3]), vector(&numbers[3..6]));
+                if link.kind == BOX {
+                    LinkSolid::Box {
+                        min: first,
+                        max: second,
+                    }
+                } else {
+                    LinkSolid::Cylinder {
+                        base: first,
+                        axis: second,
+                        radius: numbers[6],
+                        length: numbers[7],
+                    }
+                }
+            }
+
+            pub fn check(kinematics: &Kinematics) -> Told<()> {
+                kinematics.check().map_err(words)
+            }
+
+            pub fn joint_set(joints: &[f64]) -> Joints {
+                Joints {
+                    xyz: vector(joints),
+                    angles: [joints[3], joints[4]],
+                }
+            }
+
+            /// The tip and the axis.
+            pub fn forward(kinematics: &Kinematics, joints: &[f64], tool: f64) -> Told<Vec<f64>> {
+                let pose = kinematics.forward(&joint_set(joints), tool);
+                let pose = pose.map_err(words)?;
+                Ok(numbers(&[pose.tip, pose.axis]))
+            }
+
+            /// The origin and the three axes.
+            pub fn link_world(chain: &Kinematics, joints: &[f64], carrier: &str) -> Told<Vec<f64>> {
+                let frame = chain.link_world(&joint_set(joints), carrier);
+                frame.map(of_frame).map_err(words)
+            }
+
+            pub fn link_in_part(
+                chain: &Kinematics,
+                joints: &[f64],
+                carrier: &str,
+            ) -> Told<Vec<f64>> {
+                let frame = chain.link_in_part(&joint_set(joints), carrier);
+                frame.map(of_frame).map_err(words)
+            }
+
+            fn of_frame(frame: Rigid) -> Vec<f64> {
+                let axes = [frame.axis_x(), frame.axis_y(), frame.axis_z()];
+                numbers(&[frame.origin(), axes[0], axes[1], axes[2]])
+            }
+
+            fn numbers(vectors: &[Vec3]) -> Vec<f64> {
+                vectors.iter().flat_map(|v| [v.x(), v.y(), v.z()]).collect()
+            }
+
+            fn words(error: IrError) -> String {
+                match error {
+                    IrError::InvalidInput(words) | IrError::Json(words) => words,
+                }
+            }
+        }
+    };
+}
+
+on_plain_numbers!(ported);
+on_plain_numbers!(untouched);
