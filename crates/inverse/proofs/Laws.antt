@@ -2,7 +2,7 @@
 use Prim.Native.Nat.{ℕ, suc, _≤_, _<_}
 use native.Mathlib.Omega.{arith}
 use mathlib.Core.Path.{_≡_, refl, sym, ap, _∙_, subst}
-use mathlib.Core.Bool.{Bool, true, false, not, _&&_, false≢true}
+use mathlib.Core.Bool.{Bool, true, false, not, _&&_}
 use mathlib.Core.List.{List, [], _∷_}
 use borrow.Author.Tests.{ltb-true}
 use lib.Dec.{ltb}
@@ -19,7 +19,8 @@ use Rattle.chain.specs.declared.Checked.the-variants.{Passed, Refused}
 use Rattle.chain.specs.declared.Joints.{Joints}
 use Rattle.chain.specs.declared.Kinematics.{Kinematics}
 use Rattle.chain.specs.declared.ToolPose.{ToolPose}
-use Rattle.chain.specs.Check.{demand, then}
+use Rattle.chain.specs.Check.{demand}
+use Rattle.chain.proofs.Passing.{refused-passed, then-passed, demand-passed}
 use Rattle.chain.specs.Forward.{forwardCore, turnsOf, reach}
 use Rattle.chain.specs.Prepared.{prepared}
 use Rattle.inverse.specs.declared.Angles.{Angles}
@@ -62,32 +63,19 @@ module _ (k : Kinematics) (pose : ToolPose) (tool : Float) (hint : Angles) where
   answers-are P none some = toward-are P (inverseCheck k pose tool hint) (unitDirection (pose .axis)) none some
 
   -- ---- how many
-  abbrev isPassed : Checked → Bool
-  isPassed Passed = true
-  isPassed (Refused r) = false
-
-  last-passed : (a b c d : Checked) → then a (then b (then c d)) ≡ Passed → d ≡ Passed
-  last-passed Passed Passed Passed d h = h
-  last-passed Passed Passed (Refused r) d h = absurd (false≢true (ap isPassed h))
-  last-passed Passed (Refused r) c d h = absurd (false≢true (ap isPassed h))
-  last-passed (Refused r) b c d h = absurd (false≢true (ap isPassed h))
-
-  demand-passed : (b : Bool) (number at : ℕ) → demand b number at ≡ Passed → b ≡ true
-  demand-passed true number at h = refl
-  demand-passed false number at h = absurd (false≢true (ap isPassed h))
-
   some-left : (raw : RawPair) (pairs : List Angles) (l : List Joints) → solvedCheck raw pairs l ≡ Passed → 1 ≤ length l
   unfolding solvedCheck
   some-left raw pairs l h =
       ltb-true 0 (length l)
       (demand-passed (ltb 0 (length l)) notReachable 0
-      (last-passed (demand (someRaw raw) notReachable 0) (demand (ltb 0 (length pairs)) outsideLimits 0) (demand (positionsFinite l) notFinite 0)
-      (demand (ltb 0 (length l)) notReachable 0) h))
+      (then-passed (demand (positionsFinite l) notFinite 0) _
+      (then-passed (demand (ltb 0 (length pairs)) outsideLimits 0) _
+      (then-passed (demand (someRaw raw) notReachable 0) _ h .1) .1) .1))
 
   answered-count : (c : Checked) (l : List Joints) → (c ≡ Passed → 1 ≤ length l) → length l ≤ 50 → answered c (filled l) .checked ≡ Passed
       → (1 ≤ answered c (filled l) .solutions .count) × (answered c (filled l) .solutions .count ≤ 50)
   answered-count Passed l f h e = (f refl, h)
-  answered-count (Refused r) l f h e = absurd (false≢true (ap isPassed e))
+  answered-count (Refused r) l f h e = absurd (refused-passed e)
 
   toward-count : (c : Checked) (d : Direction) → unlessRefused c (toward d k (pose .tip) tool hint) .checked ≡ Passed
       → (1 ≤ unlessRefused c (toward d k (pose .tip) tool hint) .solutions .count) × (unlessRefused c (toward d k (pose .tip) tool hint) .solutions .count ≤ 50)
@@ -95,8 +83,8 @@ module _ (k : Kinematics) (pose : ToolPose) (tool : Float) (hint : Angles) where
   toward-count Passed (Unit target) e =
       answered-count (solvedCheck (rawAngles k target hint) (wrapped k target hint) (found target)) (found target)
       (some-left (rawAngles k target hint) (wrapped k target hint) (found target)) (few target) e
-  toward-count Passed Nowhere e = absurd (false≢true (ap isPassed e))
-  toward-count (Refused r) d e = absurd (false≢true (ap isPassed e))
+  toward-count Passed Nowhere e = absurd (refused-passed e)
+  toward-count (Refused r) d e = absurd (refused-passed e)
 
   -- where nothing is refused, from 1 to 50
   pub inverse-count : inverse k pose tool hint .checked ≡ Passed → (1 ≤ inverse k pose tool hint .solutions .count) × (inverse k pose tool hint .solutions .count ≤ 50)

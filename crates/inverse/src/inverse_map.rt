@@ -27,7 +27,7 @@ use geometry::Direction;
 use geometry::Vec3;
 
 // The pose at position zero.
-fn pose_at(p: Prepared, angles: Angles, tool_length: f64) -> ToolPose
+pub fn pose_at(p: Prepared, angles: Angles, tool_length: f64) -> ToolPose
     ensures { λ r. ⌜ r ≡ S.poseAt p angles «tool_length» ⌝ }
 {
     let turns = chain::turns_of(p, angles.a0, angles.a1);
@@ -40,14 +40,14 @@ fn pose_at(p: Prepared, angles: Angles, tool_length: f64) -> ToolPose
 }
 
 // More than 1e-9 off.
-fn misses(axis: Vec3, target: Vec3) -> bool
+pub fn misses(axis: Vec3, target: Vec3) -> bool
     ensures { λ r. ⌜ r ≡ S.misses axis target ⌝ }
 {
     1e-9 < geometry::norm(geometry::sub(axis, target))
 }
 
 // The angles with the position that puts the tip from `tip0` on `tip`.
-fn joints_at(p: Prepared, angles: Angles, tip: Vec3, tip0: Vec3) -> Joints
+pub fn joints_at(p: Prepared, angles: Angles, tip: Vec3, tip0: Vec3) -> Joints
     ensures { λ r. ⌜ r ≡ S.jointsAt p angles tip tip0 ⌝ }
 {
     let forth = chain::tables_forth(p, angles.a0, angles.a1);

@@ -13,11 +13,16 @@ use chain::Joints;
 pub use choosing::choose;
 use geometry::Vec3;
 pub use inverse_map::inverse;
+pub use inverse_map::joints_at;
+pub use inverse_map::misses;
+pub use inverse_map::pose_at;
+pub use ordering::precedes;
 pub use orientation::orientation_angles;
 use refusal::Refusal;
 pub use subproblem::apply_angle;
 pub use subproblem::sp1;
 pub use subproblem::sp2;
+pub use wraps::same_angles;
 
 // The angle that takes one vector to another, or any: where the vector lies on the axis.
 pub enum SolvedAngle {

@@ -15,7 +15,7 @@ fn smaller(j: Joints, k: Joints) -> bool
 }
 
 // Whether j stands before k.
-fn precedes(j: Joints, k: Joints) -> bool
+pub fn precedes(j: Joints, k: Joints) -> bool
     ensures { λ r. ⌜ r ≡ S.precedes j k ⌝ }
 {
     if smaller(j, k) {

@@ -61,7 +61,7 @@ fn angle_candidates(angle: f64, travel: Travel) -> Candidates
 }
 
 // Less than 1e-9 apart in both angles.
-fn same_angles(left: Angles, right: Angles) -> bool
+pub fn same_angles(left: Angles, right: Angles) -> bool
     ensures { λ r. ⌜ r ≡ S.sameAngles left right ⌝ }
 {
     if float::size(left.a0 - right.a0) < 1e-9 {

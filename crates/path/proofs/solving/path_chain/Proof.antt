@@ -1,0 +1,14 @@
+use borrow.Author.Needs.{needs}
+use Rattle.path.specs.Solving.{pathChain}
+use Rattle.path.proofs.solving.path_chain.Statement.{statement}
+use Rattle.path.proofs.solving.path_chain.Tie as tie
+
+chain-check-requires : tie.Need-chain-check-requires
+chain-check-requires c κs = search needs
+
+returns : tie.Need-returns
+unfolding pathChain
+returns c = rw (c .chain-check .ensures)
+
+pub path-chain-spec : {M : Type 1} → statement M
+path-chain-spec = tie.close (tie.spec chain-check-requires returns)

@@ -1,0 +1,43 @@
+use borrow.Author.Needs.{needs}
+use Rattle.path.specs.Solving.{solvePath, pathOver}
+use Rattle.path.proofs.Room.{room-passed}
+use Rattle.path.proofs.solving.solve_path.Statement.{statement}
+use Rattle.path.proofs.solving.solve_path.Tie as tie
+
+solve-check-requires : tie.Need-solve-check-requires
+solve-check-requires c κs = search needs
+
+enum-known-checked : tie.Need-enum-known-checked
+enum-known-checked c = search needs
+
+returns : tie.Need-returns
+unfolding solvePath pathOver
+returns c =
+    let e = rw (c .before .before .before .solve-check .ensures) at (c .before .checked .given .1) in
+    (rw e, rw e)
+
+enum-told : tie.Need-enum-told
+enum-told c = search needs
+
+set-up-requires : tie.Need-set-up-requires
+set-up-requires c κs = search needs
+
+start-angles-requires : tie.Need-start-angles-requires
+start-angles-requires c κs = search needs
+
+solve-poses-requires : tie.Need-solve-poses-requires
+solve-poses-requires c κs =
+    room-passed _ _ _ _ _ (rw (c .before .before .before .before .before .solve-check .ensures) at (c .before .before .before .enum-told .given .1))
+
+same-length : tie.Need-same-length
+same-length c = search needs
+
+returns-2 : tie.Need-returns-2
+unfolding solvePath
+returns-2 c =
+    let e = rw (c .before .before .before .before .before .before .before .before .solve-check .ensures) at (c .before .before .before .before .before .before .enum-told .given .1) in
+    let f = rw (c .before .before .before .before .start-angles .ensures, c .before .before .before .before .before .set-up .ensures) at (c .before .before .solve-poses .ensures) in
+    (rw e (f .0), rw e (f .1))
+
+pub solve-path-spec : {M : Type 1} → statement M
+solve-path-spec = tie.close (tie.spec solve-check-requires enum-known-checked returns enum-told set-up-requires start-angles-requires solve-poses-requires same-length returns-2)

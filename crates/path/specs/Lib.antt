@@ -1,0 +1,7 @@
+-- `Unwinding`: angles beside the angles before them. `Singular`: the singular direction and its cone. `Locking`: the solution inside the cone. `Exact`: outside. `Posing`: one pose. `Solving`: the path, over lent numbers.
+pub mod Unwinding
+pub mod Singular
+pub mod Locking
+pub mod Exact
+pub mod Posing
+pub mod Solving

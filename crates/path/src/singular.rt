@@ -1,0 +1,89 @@
+// The singular direction: where one rotary lies on the spindle and the other can tilt off it, the tool axis along that rotary leaves its angle free.
+ghost use mathlib.Core.Path.{_≡_};
+ghost use Rattle.path.specs.Singular as S;
+use crate::Frame;
+use crate::SingularFrame;
+use chain::Mount;
+use chain::Prepared;
+use geometry::Vec3;
+use geometry::dot;
+use geometry::scale;
+use trig::Answer;
+
+// The axis in the sense of the other direction.
+fn in_sense(axis: Vec3, sense: Vec3) -> Vec3
+    ensures { λ r. ⌜ r ≡ S.inSense axis sense ⌝ }
+{
+    if 0.0 <= dot(axis, sense) {
+        return axis;
+    }
+    scale(axis, -1.0)
+}
+
+// With that rotary on the spindle, its part along it, and that of the other one.
+fn frame_on(on_second: bool, axis: Vec3, spindle: Vec3, best: f64, other: f64) -> Frame
+    ensures { λ r. ⌜ r ≡ S.frameOn «on_second» axis spindle best other ⌝ }
+{
+    if best < 1.0 - 1e-6 {
+        return Frame::Regular;
+    }
+    if 1e-3 < other {
+        return Frame::Regular;
+    }
+    let direction = in_sense(axis, spindle);
+    Frame::Singular(SingularFrame {
+        on_second,
+        direction,
+    })
+}
+
+// Of two rotaries that are as near to the spindle the first.
+fn frame_of_two(first: Vec3, second: Vec3, spindle: Vec3) -> Frame
+    ensures { λ r. ⌜ r ≡ S.frameOfTwo first second spindle ⌝ }
+{
+    let one = float::size(dot(first, spindle));
+    let two = float::size(dot(second, spindle));
+    if one < two {
+        return frame_on(true, second, spindle, two, one);
+    }
+    frame_on(false, first, spindle, one, two)
+}
+
+pub fn singular_frame(p: Prepared) -> Frame
+    ensures { λ r. ⌜ r ≡ S.singularFrame p ⌝ }
+{
+    let first = p.first;
+    let second = p.second;
+    let mount = second.mount;
+    match mount {
+        Mount::Absent => Frame::Regular,
+        Mount::Table => frame_of_two(first.axis, second.axis, p.spindle),
+        Mount::Head => frame_of_two(first.axis, second.axis, p.spindle),
+    }
+}
+
+// The angle in degrees from a unit axis to the nearer of the two poles.
+fn pole_clearance_deg(axis: Vec3, direction: Vec3) -> f64
+    ensures { λ r. ⌜ r ≡ S.poleClearanceDeg axis direction ⌝ }
+{
+    let cosine = float::clamp_unit(dot(axis, direction));
+    let Answer::Value(near) = trig::arccosine(cosine) else {
+        return 180.0;
+    };
+    let Answer::Value(far) = trig::arccosine(-cosine) else {
+        return 180.0;
+    };
+    float::to_degrees(float::minimum(near, far))
+}
+
+pub fn in_singular_cone(f: SingularFrame, cone: f64, axis: Vec3) -> bool
+    ensures { λ r. ⌜ r ≡ S.inSingularCone f cone axis ⌝ }
+{
+    pole_clearance_deg(axis, f.direction) <= cone
+}
+
+pub fn nearest_pole(target: Vec3, direction: Vec3) -> Vec3
+    ensures { λ r. ⌜ r ≡ S.nearestPole target direction ⌝ }
+{
+    in_sense(direction, target)
+}
