@@ -130,6 +130,20 @@ uint32_t maztubel_link_in_part(const uint8_t *name, size_t name_length, const ui
                                const uint8_t *carrier, size_t carrier_length, double *frame, size_t frame_length, uint64_t *at,
                                uint8_t *letter);
 
+/* ---- paths
+ *
+ * Poses are 6 doubles each, the tip and the tool axis; joint sets 5, as in maztubel_forward. */
+
+/* The joints of every pose, each continuous with the one before it; the first with the start, 5 doubles, or with angles zero where
+ * the start has none. The joints stand one set for each pose, +0.0 behind them. Inside the cone about the singular direction, in
+ * degrees above 0 and at most 10, the rotary on that direction keeps its angle. 20, 29, 18, 3 to 9, 16 for the start, 17 for a pivot
+ * or the start or more than 100,000 poses, 28 with *at 0 where there is no space for a set of each pose: with these the lent joints
+ * stay as they were. Then pose by pose, with *at its index: 25 for its axis, 16 and 17 for its tip (beyond 100,000), 23, 24 with
+ * *letter the rotary's, 25, 26: with these the lent joints are all +0.0. */
+uint32_t maztubel_solve_path(const uint8_t *chain, size_t chain_length, const double *poses, size_t poses_length,
+                             const double *start, size_t start_length, double cone, double *joints, size_t joints_length,
+                             uint64_t *at, uint8_t *letter);
+
 #ifdef __cplusplus
 }
 #endif

@@ -2,5 +2,6 @@ pub mod Answers
 pub mod Lent
 pub mod ChainEntries
 pub mod LinkEntries
+pub mod PathEntries
 pub mod Steps
 pub mod Examples

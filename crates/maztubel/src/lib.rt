@@ -3,10 +3,11 @@
 //
 // Sine, cosine, arctangent and arccosine, of one argument and of slices. A slice form tests every argument before it writes the
 // first answer, so that a refusal leaves the slice as it was. The entries of a chain stand in chain_entries, those of a model in
-// link_entries.
+// link_entries, that of a path in path_entries.
 mod chain_entries;
 mod lent;
 mod link_entries;
+mod path_entries;
 
 ghost use mathlib.Core.Path.{_≡_};
 ghost use mathlib.Core.Bool.{_&&_};

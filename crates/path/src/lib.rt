@@ -20,6 +20,7 @@ pub use solving::path_chain;
 pub use solving::pose_in;
 pub use solving::put_joints;
 pub use solving::solve_path;
+pub use solving::whole_records;
 pub use unwinding::inside;
 
 // Where the path begins: at angles zero, or at given joints.

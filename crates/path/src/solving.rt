@@ -108,7 +108,7 @@ fn start_angles(start: Start) -> Angles
     }
 }
 
-fn whole_records(numbers: usize, room: usize) -> bool
+pub fn whole_records(numbers: usize, room: usize) -> bool
     ensures { λ r. ⌜ r ≡ S.wholeRecords numbers room ⌝ }
 {
     if numbers % 6 == 0 {
