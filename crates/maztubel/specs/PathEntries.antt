@@ -12,6 +12,7 @@ use Rattle.chain.specs.ChainBytes.{readChain}
 use Rattle.path.specs.declared.Start.{Start}
 use Rattle.path.specs.declared.Start.the-variants.{AtZero, From}
 use Rattle.path.specs.Solving.{PathAnswer, Kept, wholeRecords, solvePath}
+use Rattle.path.specs.Promise.{OnPath, Served}
 use Rattle.maztubel.specs.Lent.{jointsIn}
 
 -- a start is no numbers, or five
@@ -33,3 +34,8 @@ unfoldable pub solvePathOf : List ℕ → List Float → List Float → Float �
 solvePathOf chain poses start cone room =
     cond (not (lengthsGood (length poses) room (length start))) (Kept (refusal lengthsDiffer 0))
     (solvePathRead (readChain 72 chain) poses (startIn start) cone room)
+
+-- every joint set of a path that is solved: finite, within its rotaries' limits and 36,000 degrees
+abbrev pub Promised : ChainRead → PathAnswer → Type 0
+Promised (ChainRead.Refused r) answer = Unit {0}
+Promised (ChainRead.Chain k) answer = OnPath (Served k) answer

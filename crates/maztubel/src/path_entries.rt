@@ -1,6 +1,7 @@
 // The entry of a path: joints for every pose, in a lent output. What is refused before the first pose keeps it, a refusal at a pose clears it.
 ghost use mathlib.Core.Path.{_≡_};
 ghost use lib.ListN.{length};
+ghost use Rattle.chain.specs.ChainBytes.{readChain};
 ghost use Rattle.path.specs.Solving as Path;
 ghost use Rattle.maztubel.specs.Lent as Lent;
 ghost use Rattle.maztubel.specs.PathEntries as S;
@@ -24,6 +25,7 @@ pub extern "C" fn maztubel_solve_path(
     ensures place { λ n. ⌜ now (at .exit) ≡ Lent.placeIn (Path.checkedIn (S.solvePathOf (now (chain .entry)) (now (poses .entry)) (now (start .entry)) cone (length (now (joints .entry))))) ⌝ }
     ensures named { λ n. ⌜ now (letter .exit) ≡ Lent.letterIn (Path.checkedIn (S.solvePathOf (now (chain .entry)) (now (poses .entry)) (now (start .entry)) cone (length (now (joints .entry))))) ⌝ }
     ensures lent { λ n. ⌜ now (joints .exit) ≡ Path.pathOver (S.solvePathOf (now (chain .entry)) (now (poses .entry)) (now (start .entry)) cone (length (now (joints .entry)))) (now (joints .entry)) ⌝ }
+    ensures served { λ n. ⌜ S.Promised (readChain 72 (now (chain .entry))) (S.solvePathOf (now (chain .entry)) (now (poses .entry)) (now (start .entry)) cone (length (now (joints .entry)))) ⌝ }
 {
     let checked = solve_path_of(chain, poses, start, cone, joints);
     hand_back(checked, at, letter)

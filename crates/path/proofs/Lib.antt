@@ -1,2 +1,3 @@
 pub mod Walking
 pub mod Room
+pub mod Promises

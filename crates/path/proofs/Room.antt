@@ -1,9 +1,9 @@
 -- What the checks of a path leave to its loop: the output has space for every pose.
 use Prim.Native.Nat.{ℕ, _*_, _/_, _≤_}
 use native.Mathlib.Omega.{arith}
-use mathlib.Core.Path.{_≡_, sym, subst}
-use mathlib.Core.Bool.{Bool, true}
-use lib.Dec.{T, leb, leb→le}
+use mathlib.Core.Path.{_≡_}
+use borrow.Author.Tests.{leb-true}
+use lib.Dec.{leb}
 use lib.Ieee.{Float}
 use Rattle.refusal.specs.Numbers as Numbers
 use Rattle.chain.specs.declared.Checked.the-variants.{Passed}
@@ -25,4 +25,4 @@ room-passed k start cone numbers room e =
     let d = then-passed (demand (startFinite start) Numbers.notFinite 0) _ (c .1) in
     let f = then-passed (demand (pathSizes k start (numbers / 6)) Numbers.tooLarge 0) _ (d .1) in
     let g = demand-passed (leb (numbers / 6) (room / 5)) Numbers.noSpace 0 (f .1) in
-    fifths (numbers / 6) room (leb→le (numbers / 6) (room / 5) (subst T (sym g) tt))
+    fifths (numbers / 6) room (leb-true (numbers / 6) (room / 5) g)

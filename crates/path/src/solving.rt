@@ -5,6 +5,7 @@ ghost use lib.ListN.{length, take};
 ghost use Rattle.float.specs.Helpers.{nought};
 ghost use Rattle.lists.specs.Padding.{padded};
 ghost use Rattle.path.specs.Solving as S;
+ghost use Rattle.path.specs.Promise.{OnPath, Served};
 use crate::PoseAnswer;
 use crate::Setup;
 use crate::Start;
@@ -178,6 +179,7 @@ fn solve_poses(s: Setup, start: Angles, poses: &[f64], out: &mut [f64]) -> Check
 pub fn solve_path(k: Kinematics, poses: &[f64], start: Start, cone: f64, out: &mut [f64]) -> Checked
     ensures checked { λ r. ⌜ r ≡ S.checkedIn (S.solvePath k (now (poses .entry)) start cone (length (now (out .entry)))) ⌝ }
     ensures lent { λ r. ⌜ now (out .exit) ≡ S.pathOver (S.solvePath k (now (poses .entry)) start cone (length (now (out .entry)))) (now (out .entry)) ⌝ }
+    ensures served { λ r. ⌜ OnPath (Served k) (S.solvePath k (now (poses .entry)) start cone (length (now (out .entry)))) ⌝ }
 {
     let checked = solve_check(k, start, cone, poses.len(), out.len());
     if let Checked::Refused(_r) = checked {

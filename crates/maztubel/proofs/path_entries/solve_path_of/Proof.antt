@@ -48,7 +48,7 @@ returns-3 c =
     let e = rw (read .before .before .before .before .before .lengths-good .ensures) at (read .before .before .before .before .if1 .left) in
     let f = rw (read .before .before .before .read-chain .ensures) at (read .read2 .given .1) in
     let g = rw (read .before .before .start-in .ensures) at (c .before .before .solve-path .ensures) in
-    (rw (e, f) (g .0), rw (e, f) (g .1))
+    (rw (e, f) (g .0), rw (e, f) (g .1 .0))
 
 pub solve-path-of-spec : {M : Type 1} → statement M
 solve-path-of-spec = tie.close (tie.spec lengths-good-requires demand-requires returns read-chain-requires start-in-requires enum-known-read enum-known-read-2 solve-path-requires returns-2 same-length returns-3)

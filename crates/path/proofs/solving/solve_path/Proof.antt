@@ -1,5 +1,7 @@
 use borrow.Author.Needs.{needs}
+use lib.ListN.{length}
 use Rattle.path.specs.Solving.{solvePath, pathOver}
+use Rattle.path.proofs.Promises.{path-served}
 use Rattle.path.proofs.Room.{room-passed}
 use Rattle.path.proofs.solving.solve_path.Statement.{statement}
 use Rattle.path.proofs.solving.solve_path.Tie as tie
@@ -14,7 +16,8 @@ returns : tie.Need-returns
 unfolding solvePath pathOver
 returns c =
     let e = rw (c .before .before .before .solve-check .ensures) at (c .before .checked .given .1) in
-    (rw e, rw e)
+    let given = c .before .before .before .before .before .before .args in
+    (rw e, (rw e, path-served (given .k) (given .poses .now) (given .start) (given .cone) (length (given .out .now))))
 
 enum-told : tie.Need-enum-told
 enum-told c = search needs
@@ -37,7 +40,8 @@ unfolding solvePath
 returns-2 c =
     let e = rw (c .before .before .before .before .before .before .before .before .solve-check .ensures) at (c .before .before .before .before .before .before .enum-told .given .1) in
     let f = rw (c .before .before .before .before .start-angles .ensures, c .before .before .before .before .before .set-up .ensures) at (c .before .before .solve-poses .ensures) in
-    (rw e (f .0), rw e (f .1))
+    let given = c .before .before .before .before .before .before .before .before .before .before .before .args in
+    (rw e (f .0), (rw e (f .1), path-served (given .k) (given .poses .now) (given .start) (given .cone) (length (given .out .now))))
 
 pub solve-path-spec : {M : Type 1} → statement M
 solve-path-spec = tie.close (tie.spec solve-check-requires enum-known-checked returns enum-told set-up-requires start-angles-requires solve-poses-requires same-length returns-2)
