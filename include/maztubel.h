@@ -1,7 +1,7 @@
 /* The exports of the static library maztubel (`rt staticlib maztubel` writes target/staticlib/libmaztubel.a).
  *
- * Every function answers every argument: 0 and its answers are written, or a refusal's number and what it was lent is kept. The
- * numbers are those of crates/refusal.
+ * Every function answers every argument: 0 and its answers are written, or a refusal's number and what it was lent is kept, but
+ * where 21 and 22 say otherwise. The numbers are those of crates/refusal.
  *
  * A slice is a pointer and then a length, counted in elements. What is lent to one call does not overlap, a pointer is aligned for
  * its element, and NULL goes with the length 0 alone. A lent number is never NULL.
@@ -46,12 +46,18 @@ enum {
     MAZTUBEL_SOLID_BAD = 13,
     /* the tool length is refused */
     MAZTUBEL_TOOL_LENGTH = 14,
+    /* the tool axis is zero */
+    MAZTUBEL_TOOL_AXIS_ZERO = 15,
     /* a joint, a hint or a tip is not finite */
     MAZTUBEL_NOT_FINITE = 16,
     /* a size is above its limit */
     MAZTUBEL_TOO_LARGE = 17,
     /* lengths differ, or a buffer has no whole records */
     MAZTUBEL_LENGTHS_DIFFER = 20,
+    /* the tool axis is not reachable */
+    MAZTUBEL_NOT_REACHABLE = 21,
+    /* the tool axis is reached outside the rotary limits alone */
+    MAZTUBEL_OUTSIDE_LIMITS = 22,
     /* the bytes of a job or a model are malformed */
     MAZTUBEL_MALFORMED = 29
 };
@@ -102,6 +108,36 @@ uint32_t maztubel_check_chain(const uint8_t *chain, size_t chain_length, uint64_
  * 14, 3 to 9, 16, then 17 for a position beyond 10,000,000, an angle beyond 36,000, a pivot or a tool length beyond 100,000. */
 uint32_t maztubel_forward(const uint8_t *chain, size_t chain_length, const double *joints, size_t joints_length,
                           double tool_length, double *pose, size_t pose_length, uint64_t *at, uint8_t *letter);
+
+/* ---- the inverse map
+ *
+ * From a tool pose to the joints that reach it. The pose is 6 doubles, the tip and the axis, which need not be a unit vector; the
+ * hint is 2 angles in degrees, which a rotary takes that the axis leaves free. Both calls refuse with 20, 29, 14, 15 for an axis of
+ * zero or one whose length overflows, 3 to 9, 16 for a tip or a hint that is not finite, 17 for a tip, a pivot or a tool length beyond
+ * 100,000 or a hint beyond 36,000, and then 21 or 22. With 21 and 22 every lent answer is +0.0, and the count is 0. *at and
+ * *letter are those of a chain's calls. */
+
+/* Every joint set that reaches the pose, whole turns of each angle included where its limits have them, without limits those above
+ * -180 and at most 180: at most 50, in the order of the first angle's size, the first angle, the second. The list is 250 doubles,
+ * 50 joint sets of 5; those past *count are +0.0. An angle may be as large as 36,900. */
+uint32_t maztubel_inverse(const uint8_t *chain, size_t chain_length, const double *pose, size_t pose_length,
+                          double tool_length, const double *hint, size_t hint_length, double *list, size_t list_length,
+                          uint64_t *count, uint64_t *at, uint8_t *letter);
+
+enum {
+    /* the joint set with the smallest of the larger differences from the hint's two angles, of those that tie the first */
+    MAZTUBEL_NEAREST = 0,
+    /* the first whose first angle is at least -1e-9, else the first of all */
+    MAZTUBEL_FIRST_POSITIVE = 1,
+    /* the first whose first angle is at most 1e-9, else the first of all */
+    MAZTUBEL_FIRST_NEGATIVE = 2
+};
+
+/* One of these joint sets, 5 doubles. A choice that is none of the three is 20. The nearest is also what goes by the hint; the other
+ * two have a hint of zero, and do not read the one that is lent. */
+uint32_t maztubel_choose(const uint8_t *chain, size_t chain_length, const double *pose, size_t pose_length,
+                         double tool_length, uint32_t choice, const double *hint, size_t hint_length, double *joints,
+                         size_t joints_length, uint64_t *at, uint8_t *letter);
 
 /* ---- models
  *

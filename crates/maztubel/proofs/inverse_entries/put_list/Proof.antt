@@ -1,0 +1,53 @@
+use borrow.Author.Needs.{needs}
+use borrow.Author.Tests.{eq-eqb, ne-eqb}
+use Rattle.maztubel.proofs.inverse_entries.put_list.Statement.{statement}
+use Rattle.maztubel.proofs.inverse_entries.put_list.Tie as tie
+
+enum-told : tie.Need-enum-told
+enum-told c = search needs
+
+put-sets-requires : tie.Need-put-sets-requires
+put-sets-requires c κs = search needs
+
+enum-known-checked : tie.Need-enum-known-checked
+enum-known-checked c = search needs
+
+clears-requires : tie.Need-clears-requires
+clears-requires c κs = search needs
+
+clear-requires : tie.Need-clear-requires
+clear-requires c κs = search needs
+
+same-length : tie.Need-same-length
+same-length c = search needs
+
+returns : tie.Need-returns
+returns c = rw (c .before .before .put-sets .ensures, c .before .before .before .before .before .enum-told .given .1, eq-eqb _ _ (c .before .before .before .before .if1 .taken))
+
+returns-2 : tie.Need-returns-2
+returns-2 c = rw (c .before .enum-told .given .1, ne-eqb _ _ (c .if1 .left))
+
+same-length-2 : tie.Need-same-length-2
+same-length-2 c = search needs
+
+returns-3 : tie.Need-returns-3
+returns-3 c = rw (c .before .before .clear .ensures, c .before .before .before .before .before .before .before .checked .given .1, rw (c .before .before .before .before .before .clears .ensures) at (c .before .before .before .before .if2 .taken))
+
+returns-4 : tie.Need-returns-4
+returns-4 c = rw (c .before .before .before .checked .given .1, rw (c .before .clears .ensures) at (c .if2 .left))
+
+pub put-list-spec : {M : Type 1} → statement M
+put-list-spec =
+    tie.close
+    (tie.spec
+    enum-told
+    put-sets-requires
+    enum-known-checked
+    clears-requires
+    clear-requires
+    same-length
+    returns
+    returns-2
+    same-length-2
+    returns-3
+    returns-4)
