@@ -70,7 +70,12 @@ pub fn push_numbers(bytes: &mut Vec<u8>, numbers: &[f64]) {
 
 /// A chain's bytes: mostly a whole chain's, or those of one that is refused, or of no chain at all.
 pub fn chain_bytes(random: &mut Random) -> Vec<u8> {
-    let chain = chain(random);
+    harmed_bytes(sound(random), random)
+}
+
+/// The same, of a chain that is given.
+pub fn harmed_bytes(chain: Chain, random: &mut Random) -> Vec<u8> {
+    let chain = harmed(chain, random);
     let mut bytes = chain.bytes();
     let no_count = chain.count != 1 && chain.count != 2;
     if random.below(32) == 0 || (no_count && random.below(2) == 0) {
@@ -79,9 +84,8 @@ pub fn chain_bytes(random: &mut Random) -> Vec<u8> {
     bytes
 }
 
-/// A chain, sound or damaged.
-fn chain(random: &mut Random) -> Chain {
-    let mut chain = sound(random);
+/// A sound chain, or damaged.
+fn harmed(mut chain: Chain, random: &mut Random) -> Chain {
     for _ in 0..damages(random) {
         damage(&mut chain, random);
     }

@@ -9,6 +9,14 @@ pub mod cases;
 pub mod chains;
 pub mod exact;
 pub mod floats;
+#[cfg(original)]
+pub mod inverse_calls;
+#[cfg(original)]
+pub mod inverse_cases;
+#[cfg(original)]
+pub mod inverse_reference;
+#[cfg(original)]
+pub mod inverse_tally;
 pub mod joints;
 pub mod lean;
 pub mod maztubel;
@@ -26,3 +34,4 @@ pub mod reference;
 pub mod rust;
 #[cfg(original)]
 pub mod tally;
+pub mod targets;

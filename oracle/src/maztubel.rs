@@ -51,6 +51,34 @@ unsafe extern "C" {
         at: &mut u64,
         letter: &mut u8,
     ) -> u32;
+    fn maztubel_inverse(
+        chain: *const u8,
+        chain_length: usize,
+        pose: *const f64,
+        pose_length: usize,
+        tool_length: f64,
+        hint: *const f64,
+        hint_length: usize,
+        list: *mut f64,
+        list_length: usize,
+        count: &mut u64,
+        at: &mut u64,
+        letter: &mut u8,
+    ) -> u32;
+    fn maztubel_choose(
+        chain: *const u8,
+        chain_length: usize,
+        pose: *const f64,
+        pose_length: usize,
+        tool_length: f64,
+        choice: u32,
+        hint: *const f64,
+        hint_length: usize,
+        joints: *mut f64,
+        joints_length: usize,
+        at: &mut u64,
+        letter: &mut u8,
+    ) -> u32;
     fn maztubel_link_world(
         name: *const u8,
         name_length: usize,
@@ -183,6 +211,59 @@ pub fn forward(
             tool_length,
             pose.as_mut_ptr(),
             pose.len(),
+            at,
+            letter,
+        )
+    }
+}
+
+/// What inverse and choose are lent to read.
+#[derive(Clone, Copy)]
+pub struct Asked<'a> {
+    pub chain: &'a [u8],
+    pub pose: &'a [f64],
+    pub tool_length: f64,
+    pub hint: &'a [f64],
+}
+
+pub fn inverse(
+    asked: Asked,
+    list: &mut [f64],
+    count: &mut u64,
+    at: &mut u64,
+    letter: &mut u8,
+) -> u32 {
+    unsafe {
+        maztubel_inverse(
+            asked.chain.as_ptr(),
+            asked.chain.len(),
+            asked.pose.as_ptr(),
+            asked.pose.len(),
+            asked.tool_length,
+            asked.hint.as_ptr(),
+            asked.hint.len(),
+            list.as_mut_ptr(),
+            list.len(),
+            count,
+            at,
+            letter,
+        )
+    }
+}
+
+pub fn choose(asked: Asked, choice: u32, joints: &mut [f64], at: &mut u64, letter: &mut u8) -> u32 {
+    unsafe {
+        maztubel_choose(
+            asked.chain.as_ptr(),
+            asked.chain.len(),
+            asked.pose.as_ptr(),
+            asked.pose.len(),
+            asked.tool_length,
+            choice,
+            asked.hint.as_ptr(),
+            asked.hint.len(),
+            joints.as_mut_ptr(),
+            joints.len(),
             at,
             letter,
         )

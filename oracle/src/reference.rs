@@ -11,14 +11,18 @@ use crate::reading;
 use crate::rust::ported::Told;
 use crate::rust::{Machine, chain_name, ported, untouched};
 
-const NOT_FINITE: u32 = 16;
-const TOO_LARGE: u32 = 17;
-const LENGTHS_DIFFER: u32 = 20;
+pub const NOT_FINITE: u32 = 16;
+pub const TOO_LARGE: u32 = 17;
+pub const LENGTHS_DIFFER: u32 = 20;
 const MALFORMED: u32 = 29;
 
 const JOINTS: usize = 5;
 
-/// A refusal's number, and the index or the offset that goes with it, else 0. None of these entries names a letter.
+/// How the Rust's words end where no angles reach a tool axis, and where none within the limits do.
+pub const NOT_REACHABLE: &str = ") is not reachable";
+pub const OUTSIDE_LIMITS: &str = ") is outside the rotary limits";
+
+/// A refusal's number, and the index or the offset that goes with it, else 0. None of the entries that are compared names a letter.
 #[derive(Clone, Copy, Debug, PartialEq)]
 pub struct Refusal {
     pub number: u32,
@@ -28,11 +32,11 @@ pub struct Refusal {
 /// The numbers that are written, none for a check, or a refusal.
 pub type Answer = Result<Vec<f64>, Refusal>;
 
-fn refused<T>(number: u32) -> Result<T, Refusal> {
+pub fn refused<T>(number: u32) -> Result<T, Refusal> {
     Err(Refusal { number, at: 0 })
 }
 
-fn malformed(offset: usize) -> Refusal {
+pub fn malformed(offset: usize) -> Refusal {
     Refusal {
         number: MALFORMED,
         at: offset as u64,
@@ -63,7 +67,7 @@ pub fn with_libm(entry: Entry, case: &Case) -> Option<Vec<f64>> {
 }
 
 /// A chain under a name of one byte, and no model.
-fn bare(chain: &Chain) -> Machine<'_> {
+pub fn bare(chain: &Chain) -> Machine<'_> {
     Machine {
         name_length: 1,
         chain,
@@ -145,15 +149,15 @@ fn link_frame(case: &Case, frame_of: fn(&Kinematics, &[f64], &str) -> Told<Vec<f
     Ok(frame)
 }
 
-fn finite(numbers: &[f64]) -> bool {
+pub fn finite(numbers: &[f64]) -> bool {
     numbers.iter().all(|x| x.is_finite())
 }
 
-fn exceeds(x: f64, most: f64) -> bool {
+pub fn exceeds(x: f64, most: f64) -> bool {
     x.abs() > most
 }
 
-fn pivots_fit(chain: &Chain) -> bool {
+pub fn pivots_fit(chain: &Chain) -> bool {
     let mut numbers = chain.present().flat_map(|rotary| rotary.pivot);
     !numbers.any(|x| exceeds(x, MOST_PIVOT))
 }
@@ -181,7 +185,8 @@ enum Whose {
     AskedCarrier,
 }
 
-fn refusal(words: &str, machine: &Machine) -> Refusal {
+/// What the Rust refuses, as a number with its index.
+pub fn refusal(words: &str, machine: &Machine) -> Refusal {
     let (number, whose) = cause(words, machine.name_length);
     let at = match whose {
         Whose::NoOne | Whose::AskedCarrier => 0,
@@ -232,9 +237,12 @@ fn cause_elsewhere(words: &str) -> (u32, Whose) {
         | "rotary limit maximum must be finite"
         | "rotary limit minimum is not less than maximum" => (8, Whose::Rotary),
         "tool length must be finite and non-negative" => (14, Whose::NoOne),
-        "joint position must be finite" | "joint angle must be finite" => {
-            (NOT_FINITE, Whose::NoOne)
-        }
+        "tool axis is zero" => (15, Whose::NoOne),
+        "tool tip must be finite"
+        | "joint position must be finite"
+        | "joint angle must be finite" => (NOT_FINITE, Whose::NoOne),
+        _ if words.ends_with(NOT_REACHABLE) => (21, Whose::NoOne),
+        _ if words.ends_with(OUTSIDE_LIMITS) => (22, Whose::NoOne),
         _ => panic!("the Rust refuses with '{words}'"),
     }
 }

@@ -123,6 +123,47 @@ macro_rules! on_plain_numbers {
                 Ok(numbers(&[pose.tip, pose.axis]))
             }
 
+            fn tool_pose(pose: &[f64]) -> ToolPose {
+                ToolPose {
+                    tip: vector(pose),
+                    axis: vector(&pose[3..]),
+                }
+            }
+
+            fn set_numbers(joints: Joints) -> [f64; 5] {
+                let Joints { xyz, angles } = joints;
+                [xyz.x(), xyz.y(), xyz.z(), angles[0], angles[1]]
+            }
+
+            pub fn inverse(
+                chain: &Kinematics,
+                pose: &[f64],
+                tool: f64,
+                hint: [f64; 2],
+            ) -> Told<Vec<[f64; 5]>> {
+                let sets = chain.inverse(&tool_pose(pose), tool, hint);
+                let sets = sets.map_err(words)?;
+                Ok(sets.into_iter().map(set_numbers).collect())
+            }
+
+            /// By the number of the choice in C.
+            pub fn choose(
+                chain: &Kinematics,
+                pose: &[f64],
+                tool: f64,
+                choice: u32,
+                hint: [f64; 2],
+            ) -> Told<[f64; 5]> {
+                let choice = match choice {
+                    0 => Choice::Nearest(hint),
+                    1 => Choice::FirstPositive,
+                    2 => Choice::FirstNegative,
+                    _ => panic!("there is no choice {choice}"),
+                };
+                let joints = chain.choose(&tool_pose(pose), tool, choice);
+                joints.map(set_numbers).map_err(words)
+            }
+
             /// The origin and the three axes.
             pub fn link_world(chain: &Kinematics, joints: &[f64], carrier: &str) -> Told<Vec<f64>> {
                 let frame = chain.link_world(&joint_set(joints), carrier);

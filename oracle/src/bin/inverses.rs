@@ -1,0 +1,57 @@
+//! Compares the exported inverse and choose with the Rust, whose sine, cosine, arctangent and arccosine are the exported ones, and
+//! with document 01 where it adds to the Rust:
+//!
+//!     inverses [SEED] [MILLIONS]
+//!
+//! on MILLIONS (5) million cases, each through both. Every answer is compared: the number, the index or offset, the letter, the
+//! count, and each lent number bit for bit. Prints how often each refusal, each count and each kind of machine was met, the first
+//! differences, and the largest distances from the Rust with libm. Ends with status 1 where there is a difference, or where
+//! something that can be met was met too seldom.
+
+use std::process::ExitCode;
+
+#[cfg(original)]
+fn main() -> ExitCode {
+    use comparison::{FEWEST, PARTS, compare_part};
+    use oracle::inverse_tally::Tally;
+    use oracle::parts::{argument, shared_out};
+    let seed = argument(1, 1);
+    let millions = argument(2, 5);
+    println!("seed {seed}, {millions} million cases");
+    let parts = millions * PARTS;
+    let mut total = Tally::default();
+    for tally in shared_out(seed, parts, Tally::default, compare_part) {
+        total.add(tally);
+    }
+    total.print(parts * FEWEST)
+}
+
+#[cfg(not(original))]
+fn main() -> ExitCode {
+    println!("the Rust that is compared is not beside this repository");
+    ExitCode::from(2)
+}
+
+#[cfg(original)]
+mod comparison {
+    use oracle::inverse_calls::ask;
+    use oracle::inverse_cases::{Case, Entry};
+    use oracle::inverse_tally::Tally;
+    use oracle::random::Random;
+
+    /// How many parts a million has, and how many cases a part.
+    pub const PARTS: u64 = 20;
+    const CASES: usize = 50_000;
+
+    /// How often each answer must be met in a part, on the average.
+    pub const FEWEST: u64 = 1;
+
+    pub fn compare_part(tally: &mut Tally, random: &mut Random) {
+        for _ in 0..CASES {
+            let case = Case::new(random);
+            for entry in Entry::ALL {
+                tally.compare(entry, &case, &ask(entry, &case));
+            }
+        }
+    }
+}
