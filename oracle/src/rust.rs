@@ -123,7 +123,7 @@ macro_rules! on_plain_numbers {
                 Ok(numbers(&[pose.tip, pose.axis]))
             }
 
-            fn tool_pose(pose: &[f64]) -> ToolPose {
+            pub fn tool_pose(pose: &[f64]) -> ToolPose {
                 ToolPose {
                     tip: vector(pose),
                     axis: vector(&pose[3..]),

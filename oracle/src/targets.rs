@@ -90,8 +90,14 @@ pub fn target(chain: &Chain, random: &mut Random) -> Vector {
     let target = match random.below(16) {
         0..=6 => reached(chain, random),
         7 | 8 => shaken(reached(chain, random), random),
-        9 => tangent(chain, random),
-        10 => shaken(tangent(chain, random), random),
+        9 => tangent(chain, 0.0, random),
+        10 => match random.below(2) {
+            0 => shaken(tangent(chain, 0.0, random), random),
+            _ => {
+                let gap = random.one_of(&GAPS) * (1.0 + within(1e-6, random));
+                tangent(chain, signed(gap, random), random)
+            }
+        },
         11 => on_rotary(chain, random),
         12 => chain.spindle.map(|x| x * random.one_of(&[1.0, -1.0])),
         13 => usable_axis(random),
@@ -147,12 +153,21 @@ fn pair(chain: &Chain) -> (Vector, Vector) {
 }
 
 /// An axis on which the two solutions meet: the spindle, turned about the one rotary into the plane of both, then about the other.
-fn tangent(chain: &Chain, random: &mut Random) -> Vector {
+/// With a gap an axis past it or before it, where the cosine that the Rust takes the sine from is larger than 1 by the gap.
+fn tangent(chain: &Chain, gap: f64, random: &mut Random) -> Vector {
     let (wa, wb) = pair(chain);
-    let along = dot(wb, unit(chain.spindle));
-    let side = unit(sum(wa, scaled(wb, -dot(wa, wb))));
+    let (d, along) = (dot(wa, wb), dot(wb, unit(chain.spindle)));
+    let side = unit(sum(wa, scaled(wb, -d)));
     let across = signed((1.0 - along * along).max(0.0).sqrt(), random);
     let c = sum(scaled(wb, along), scaled(side, across));
+    if gap == 0.0 {
+        return turned(wa, c, angle(random));
+    }
+    let (cosine, square) = (dot(wa, c), unit(sum(c, scaled(wa, -dot(wa, c)))));
+    let sine = dot(square, c);
+    let slope = (d - along * cosine) / (along - d * cosine) / sine;
+    let (sine, cosine) = (sine.atan2(cosine) + gap / slope).sin_cos();
+    let c = sum(scaled(wa, cosine), scaled(square, sine));
     turned(wa, c, angle(random))
 }
 

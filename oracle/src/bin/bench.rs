@@ -74,7 +74,10 @@ fn main() {
     waves(&mut Random::new(2));
     slices(&mut Random::new(3));
     #[cfg(original)]
-    forwards::print(&mut Random::new(4));
+    {
+        forwards::print(&mut Random::new(4));
+        inverses::print(&mut Random::new(5));
+    }
 }
 
 fn roots(random: &mut Random) {
@@ -317,20 +320,22 @@ mod forwards {
     use std::hint::black_box;
 
     const ROUNDS: usize = 200;
-    const TOOL_LENGTH: f64 = 120.0;
+    pub const TOOL_LENGTH: f64 = 120.0;
     const TABLE: u8 = 0;
     const HEAD: u8 = 1;
+
+    pub const MACHINES: [(&str, &[u8]); 5] = [
+        ("one rotary, a table", &[TABLE]),
+        ("one rotary, a head", &[HEAD]),
+        ("two rotaries, tables", &[TABLE, TABLE]),
+        ("two rotaries, a table and a head", &[TABLE, HEAD]),
+        ("two rotaries, heads", &[HEAD, HEAD]),
+    ];
 
     pub fn print(random: &mut Random) {
         println!("the same of forward, best of {ROUNDS} rounds over {COUNT} joint sets");
         let joints: Vec<[f64; 5]> = (0..COUNT).map(|_| joint_set(random)).collect();
-        for (words, carriers) in [
-            ("one rotary, a table", &[TABLE][..]),
-            ("one rotary, a head", &[HEAD]),
-            ("two rotaries, tables", &[TABLE, TABLE]),
-            ("two rotaries, a table and a head", &[TABLE, HEAD]),
-            ("two rotaries, heads", &[HEAD, HEAD]),
-        ] {
+        for (words, carriers) in MACHINES {
             let chain = chain(carriers);
             let proved = exported(&chain, &joints);
             let lean = leans(&chain, &joints);
@@ -341,13 +346,13 @@ mod forwards {
         }
     }
 
-    fn joint_set(random: &mut Random) -> [f64; 5] {
+    pub fn joint_set(random: &mut Random) -> [f64; 5] {
         let [x, y, z] = [(); 3].map(|()| within(500.0, random));
         [x, y, z, within(120.0, random), within(360.0, random)]
     }
 
     /// A about a slanted axis, and C about z.
-    fn chain(carriers: &[u8]) -> Chain {
+    pub fn chain(carriers: &[u8]) -> Chain {
         let rotary = |letter, carrier, axis| Rotary {
             letter,
             carrier,
@@ -418,8 +423,87 @@ mod forwards {
     }
 
     #[inline(never)]
-    fn lean_forward(lean: &Lean, joints: &[f64; 5]) -> ([f64; 3], [f64; 3]) {
+    pub fn lean_forward(lean: &Lean, joints: &[f64; 5]) -> ([f64; 3], [f64; 3]) {
         let &[x, y, z, first, second] = joints;
         lean.forward([x, y, z], [first, second], TOOL_LENGTH)
+    }
+}
+
+/// Inverse through the export, which reads and checks the chain in each call, beside the untouched Rust's, which checks it too.
+#[cfg(original)]
+mod inverses {
+    use super::forwards::{MACHINES, TOOL_LENGTH, chain, joint_set, lean_forward};
+    use super::{COUNT, best_of, row};
+    use oracle::chains::Chain;
+    use oracle::lean::Lean;
+    use oracle::maztubel::{self, Asked};
+    use oracle::random::Random;
+    use oracle::rust::{Machine, untouched};
+    use std::hint::black_box;
+
+    const ROUNDS: usize = 60;
+    const HINT: [f64; 2] = [0.0; 2];
+    /// All five turns of each angle lie within them.
+    const WIDE: [f64; 2] = [-1000.0, 1000.0];
+
+    pub fn print(random: &mut Random) {
+        println!("the same of inverse, best of {ROUNDS} rounds over {COUNT} poses");
+        let joints: Vec<[f64; 5]> = (0..COUNT).map(|_| joint_set(random)).collect();
+        for (words, carriers) in MACHINES {
+            both(&format!("inverse, {words}"), &chain(carriers), &joints);
+        }
+        let (words, carriers) = MACHINES[2];
+        let mut wide = chain(carriers);
+        for rotary in &mut wide.rotaries {
+            (rotary.limited, rotary.limits) = (1, WIDE);
+        }
+        both(&format!("inverse, {words}, 50 sets"), &wide, &joints);
+    }
+
+    fn both(words: &str, chain: &Chain, joints: &[[f64; 5]]) {
+        let lean = Lean::new(chain);
+        let poses = joints.iter().map(|set| lean_forward(&lean, set));
+        let poses: Vec<[f64; 6]> = poses
+            .map(|([x, y, z], [i, j, k])| [x, y, z, i, j, k])
+            .collect();
+        row(words, exported(chain, &poses), rusts(chain, &poses));
+    }
+
+    fn exported(chain: &Chain, poses: &[[f64; 6]]) -> f64 {
+        let chain = chain.bytes();
+        let mut list = [0.0; 250];
+        let (mut count, mut at, mut letter) = (0, 0, 0);
+        best_of(ROUNDS, || {
+            let told = poses.iter().map(|pose| {
+                let asked = Asked {
+                    chain: &chain,
+                    pose,
+                    tool_length: TOOL_LENGTH,
+                    hint: &HINT,
+                };
+                let told = maztubel::inverse(asked, &mut list, &mut count, &mut at, &mut letter);
+                black_box(&list);
+                told
+            });
+            assert_eq!(told.sum::<u32>(), 0, "a pose was refused");
+        })
+    }
+
+    fn rusts(chain: &Chain, poses: &[[f64; 6]]) -> f64 {
+        let rust = untouched::kinematics(&Machine {
+            name_length: 1,
+            chain,
+            links: &[],
+        });
+        let poses: Vec<_> = poses
+            .iter()
+            .map(|pose| untouched::tool_pose(pose))
+            .collect();
+        best_of(ROUNDS, || {
+            for pose in &poses {
+                let sets = rust.inverse(pose, TOOL_LENGTH, HINT);
+                black_box(sets.expect("joint sets"));
+            }
+        })
     }
 }
