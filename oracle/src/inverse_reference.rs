@@ -177,6 +177,35 @@ mod tests {
         assert_eq!(asked(sizes), 17);
     }
 
+    /// On two rotaries with limits, so that every number of the bytes is read.
+    #[test]
+    fn every_number_is_tested() {
+        let (mut case, mut chain) = half_turns();
+        chain.count = 2;
+        chain.rotaries[1] = chain.rotaries[0];
+        (chain.rotaries[1].letter, chain.rotaries[1].axis) = (b'A', [1.0, 0.0, 0.0]);
+        case.chain = chain.bytes();
+        assert_eq!(number(&case), 0);
+        for x in [f64::NAN, f64::INFINITY, f64::NEG_INFINITY] {
+            for at in (16..80).chain(88..176).step_by(8) {
+                let mut case = case.clone();
+                case.chain[at..at + 8].copy_from_slice(&x.to_le_bytes());
+                assert!([6, 8].contains(&number(&case)), "{at}");
+            }
+            for slot in 0..9 {
+                let mut case = case.clone();
+                let (place, refusal) = match slot {
+                    0..3 => (&mut case.pose[slot], 16),
+                    3..6 => (&mut case.pose[slot], 15),
+                    6 => (&mut case.tool_length, 14),
+                    _ => (&mut case.hint[slot - 7], 16),
+                };
+                *place = x;
+                assert_eq!(number(&case), refusal, "{slot}");
+            }
+        }
+    }
+
     /// Off the circle by more than 1e-9 and less than 1e-7: the limits are judged first.
     #[test]
     fn limits_stand_between_the_tests_of_an_axis() {
