@@ -21,4 +21,5 @@ pub mod RootOrder
 pub mod RootUnique
 pub mod RootNearby
 pub mod RootGuess
+pub mod RootQuick
 pub mod RootGap

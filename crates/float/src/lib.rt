@@ -8,6 +8,7 @@ ghost use Rattle.float.specs.TotalOrder as Total;
 
 mod square_root;
 
+pub use square_root::quick_root;
 pub use square_root::root;
 
 pub enum Comparison {

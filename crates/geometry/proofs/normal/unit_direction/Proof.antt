@@ -20,15 +20,15 @@ returns-2 c = rw (rw (c .before .before .before .all-finite .ensures) at (c .bef
 dot-requires : tie.Need-dot-requires
 dot-requires c κs = search needs
 
-root-requires : tie.Need-root-requires
-root-requires c κs = search needs
+quick-root-requires : tie.Need-quick-root-requires
+quick-root-requires c κs = search needs
 
 with-length-requires : tie.Need-with-length-requires
 with-length-requires c κs = search needs
 
 returns-3 : tie.Need-returns-3
 unfolding unitDirection
-returns-3 c = rw (c .with-length .ensures, c .before .root .ensures, c .before .before .dot .ensures, rw (c .before .before .before .before .before .before .all-finite .ensures) at (c .before .before .before .before .before .if1 .left), rw (c .before .before .before .before .tiny .ensures) at (c .before .before .before .if2 .left))
+returns-3 c = rw (c .with-length .ensures, c .before .quick-root .ensures, c .before .before .dot .ensures, rw (c .before .before .before .before .before .before .all-finite .ensures) at (c .before .before .before .before .before .if1 .left), rw (c .before .before .before .before .tiny .ensures) at (c .before .before .before .if2 .left))
 
 pub unit-direction-spec : {M : Type 1} → statement M
-unit-direction-spec = tie.close (tie.spec all-finite-requires returns tiny-requires returns-2 dot-requires root-requires with-length-requires returns-3)
+unit-direction-spec = tie.close (tie.spec all-finite-requires returns tiny-requires returns-2 dot-requires quick-root-requires with-length-requires returns-3)
