@@ -14,9 +14,9 @@ use crate::bytes_at::byte_at;
 use crate::bytes_at::number_at;
 use crate::bytes_at::spare;
 use crate::bytes_at::vector_at;
-use crate::check::demand;
-use crate::check::one_or_two;
-use crate::check::then;
+use crate::checks::demand;
+use crate::checks::one_or_two;
+use crate::checks::then;
 use geometry::Vec3;
 use refusal::Refusal;
 

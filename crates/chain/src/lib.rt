@@ -2,7 +2,7 @@
 // of checks for each call (specs/Check.antt).
 mod bytes_at;
 mod chain_bytes;
-mod check;
+mod checks;
 mod forward_map;
 mod prepare_chain;
 
@@ -17,16 +17,16 @@ pub use chain_bytes::read_chain;
 pub use chain_bytes::rotary_at;
 pub use chain_bytes::rotary_fields;
 pub use chain_bytes::zeros;
-pub use check::all_within;
-pub use check::chain_check;
-pub use check::chain_sizes;
-pub use check::demand;
-pub use check::has_direction;
-pub use check::joints_finite;
-pub use check::joints_within;
-pub use check::pivots_within;
-pub use check::then;
-pub use check::within;
+pub use checks::all_within;
+pub use checks::chain_check;
+pub use checks::chain_sizes;
+pub use checks::demand;
+pub use checks::has_direction;
+pub use checks::joints_finite;
+pub use checks::joints_within;
+pub use checks::pivots_within;
+pub use checks::then;
+pub use checks::within;
 pub use forward_map::forward;
 pub use forward_map::forward_core;
 pub use forward_map::head_point;

@@ -22,4 +22,5 @@ pub mod RootUnique
 pub mod RootNearby
 pub mod RootGuess
 pub mod RootQuick
+pub mod SizeBits
 pub mod RootGap

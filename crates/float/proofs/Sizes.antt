@@ -1,4 +1,4 @@
--- The size of a float: that the code's three ways give `sizeOf`, its value in units, and that a size is at most c exactly if the value lies from -c to c.
+-- The size of a float: its value in units, and that a size is at most c exactly if the value lies from -c to c.
 use mathlib.Core.Path.{_≡_, refl, sym, ap, _∙_, subst}
 use mathlib.Core.Bool.{Bool, true, false, _&&_, true≢false, false≢true}
 use Prim.Native.Nat.{ℕ, zero, suc, _*_, _<_}
@@ -17,41 +17,6 @@ use Rattle.float.proofs.Zeros.{nought-is, neg-below, zero-eq, below-inf
 use Rattle.float.specs.Units.{U, Is}
 use Rattle.float.specs.Helpers.{nought, sizeOf}
 
-pub abs-below : (x : Float) → lt x nought ≡ true → neg x ≡ sizeOf x
-unfolding lt neg ofBits sizeOf
-abs-below nan h = refl
-abs-below (inf true) h = refl
-abs-below (inf false) h = absurd (false≢true h)
-abs-below (fin true m e) h = refl
-abs-below (fin false m e) h = absurd (none (m * up e * 1) (down e) (ltb-true (m * up e * 1) (0 * 1 * down e) h))
-  where
-    none : (a d : ℕ) → a < 0 * 1 * d → ⊥
-    none a d h = omega arith
-
-unsigned-fits : (s : Bool) (e : ℤ) → T (fits binary64 (fin s zero e)) → T (fits binary64 (fin false zero e))
-unfolding fits
-unsigned-fits s e t = t
-
-pub abs-zero : (x : Float) → T (fits binary64 x) → eq x nought ≡ true → nought ≡ sizeOf x
-unfolding sizeOf
-abs-zero nan t h = absurd (false≢true (nan-eq ∙ h))
-abs-zero (inf s) t h = absurd (false≢true (inf-eq s ∙ h))
-abs-zero (fin s zero e) t h = one-float nought (fin false zero e) false 0 (ofBits-fits binary64 0) (unsigned-fits s e t) nought-is (refl, go (up e) U (down e))
-  where
-    go : (a u d : ℕ) → 0 * a * u ≡ 0 * d
-    go a u d = omega arith
-abs-zero (fin s (suc m) e) t h = absurd (not-zero s m e h)
-
-pub abs-other : (x : Float) → lt x nought ≡ false → eq x nought ≡ false → x ≡ sizeOf x
-unfolding sizeOf
-abs-other nan h l = refl
-abs-other (inf true) h l = absurd (true≢false (sym below-inf ∙ h))
-abs-other (inf false) h l = refl
-abs-other (fin s zero e) h l = absurd (true≢false (sym (zero-eq s e) ∙ l))
-abs-other (fin true (suc m) e) h l = absurd (true≢false (sym (neg-below m e) ∙ h))
-abs-other (fin false (suc m) e) h l = refl
-
--- ---- order
 le-size : (x : Float) → isNan x ≡ false → le x (sizeOf x) ≡ true
 unfolding sizeOf
 le-size nan h = absurd (false≢true (sym h ∙ unfold isNan in refl))

@@ -32,13 +32,10 @@ pub fn finite(x: f64) -> bool
 pub fn size(x: f64) -> f64
     ensures { λ r. ⌜ r ≡ S.sizeOf x ⌝ }
 {
-    if x < 0.0 {
-        return -x;
+    if x != x {
+        return x;
     }
-    if x == 0.0 {
-        return 0.0;
-    }
-    x
+    f64::from_bits(f64::to_bits(x) % 9223372036854775808)
 }
 
 // A number that stands in totalOrder as x does.

@@ -1,9 +1,14 @@
 use borrow.Author.Needs.{needs}
-use Rattle.float.proofs.Sizes.{abs-below, abs-zero, abs-other}
+use Rattle.float.proofs.RootNearby.{same-number}
+use Rattle.float.proofs.SizeBits.{nan-size, no-nan-size, bits-size}
 use Rattle.float.proofs.size.Statement.{statement}
 use Rattle.float.proofs.size.Tie as tie
 
 pub size-spec : {M : Type 1} → statement M
 size-spec =
     tie.close
-    (tie.spec (λ c. abs-below _ (c .if1 .taken)) (λ c. abs-zero _ (search needs) (c .if2 .taken)) (λ c. abs-other _ (c .before .if1 .left) (c .if2 .left)))
+    (tie.spec
+    (λ c. nan-size _ (c .if1 .taken))
+    (λ c. same-number _ (c .if1 .left))
+    (λ c. no-nan-size _ (search needs) (same-number _ (c .if1 .left)))
+    (λ c. bits-size _ (search needs) (same-number _ (c .if1 .left))))
