@@ -23,6 +23,8 @@ use Rattle.chain.specs.declared.ToolPose.{ToolPose}
 use Rattle.chain.specs.declared.Kinematics.{Kinematics}
 use Rattle.chain.specs.declared.Checked.{Checked}
 use Rattle.chain.specs.declared.Checked.the-variants as Checked
+use Rattle.chain.specs.declared.ChainRead.{ChainRead}
+use Rattle.chain.specs.declared.ChainRead.the-variants as ChainRead
 use Rattle.chain.specs.declared.Posed.{Posed}
 use Rattle.chain.specs.declared.Posed.the-variants.{At, Refused}
 use Rattle.chain.specs.Check.{demand, firstRefusal, chainCheck, within, longest, jointsFinite, jointsWithin, pivotsWithin}
@@ -126,3 +128,8 @@ unlessRefused (Checked.Refused r) answer = Refused r
 unfoldable pub forward : Kinematics → Joints → Float → Posed
 forward k j tool =
     unlessRefused (forwardCheck k j tool) (posed (reach (prepared k) (turnsOf (prepared k) (j .a0) (j .a1)) (j .xyz) tool))
+
+-- the same of a chain's bytes, read
+abbrev pub forwardRead : ChainRead → Joints → Float → Posed
+forwardRead (ChainRead.Refused r) j tool = Refused r
+forwardRead (ChainRead.Chain k) j tool = forward k j tool

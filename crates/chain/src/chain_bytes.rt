@@ -41,7 +41,7 @@ pub fn zeros(bytes: &[u8], at: usize, n: usize) -> Checked
 }
 
 // 0 or 1.
-fn flag(bytes: &[u8], at: usize) -> bool
+pub fn flag(bytes: &[u8], at: usize) -> bool
     ensures { λ r. ⌜ r ≡ S.flag (now (bytes .entry)) at ⌝ }
 {
     byte_at(bytes, at) < 2
@@ -68,7 +68,7 @@ pub fn rotary_fields(bytes: &[u8], at: usize) -> Checked
     then(carrier, then(limits, then(empty, then(min, max))))
 }
 
-fn carrier_of(byte: u8) -> Carrier
+pub fn carrier_of(byte: u8) -> Carrier
     ensures { λ r. ⌜ r ≡ S.carrierOf byte ⌝ }
 {
     if byte == 0 {
@@ -77,7 +77,7 @@ fn carrier_of(byte: u8) -> Carrier
     Carrier::Head
 }
 
-fn travel_at(bytes: &[u8], at: usize) -> Travel
+pub fn travel_at(bytes: &[u8], at: usize) -> Travel
     requires { ⌜ at + 72 ≤ length (now bytes) ⌝ }
     ensures { λ r. ⌜ r ≡ S.travelAt (now (bytes .entry)) at ⌝ }
 {

@@ -1,5 +1,7 @@
 // The chain check, the size check, and what every call's list of checks is made of. A check answers; a list of checks answers with its first refusal.
 ghost use mathlib.Core.Path.{_≡_};
+ghost use mathlib.Core.Bool.{true, cond};
+ghost use lib.Dec.{eqb};
 ghost use Rattle.chain.specs.Check as S;
 use crate::Checked;
 use crate::Joints;
@@ -48,7 +50,7 @@ impl RotaryLimits {
 }
 
 // Two finite numbers, the first below the second.
-fn travel_good(travel: Travel) -> bool
+pub fn travel_good(travel: Travel) -> bool
     ensures { λ r. ⌜ r ≡ S.travelGood travel ⌝ }
 {
     let Travel::Within(l) = travel else {
@@ -72,7 +74,7 @@ pub fn has_direction(v: Vec3) -> bool
 }
 
 // A, B or C.
-fn known_letter(letter: u8) -> bool
+pub fn known_letter(letter: u8) -> bool
     ensures { λ r. ⌜ r ≡ S.knownLetter letter ⌝ }
 {
     if letter < 65 {
@@ -81,14 +83,15 @@ fn known_letter(letter: u8) -> bool
     letter < 68
 }
 
-fn other_letter(letter: u8, earlier: u8) -> bool
+pub fn other_letter(letter: u8, earlier: u8) -> bool
     ensures { λ r. ⌜ r ≡ S.otherLetter letter earlier ⌝ }
 {
     letter != earlier
 }
 
-// One rotary, whole. `earlier` is the letter of the rotary before it, 0 where there is none.
-fn rotary_check(j: RotaryJoint, earlier: u8, index: u64) -> Checked
+// One rotary, whole. `directed` says whether its axis has a direction; `earlier` is the letter of the rotary before it, 0 where there is none.
+fn rotary_check(j: RotaryJoint, directed: bool, earlier: u8, index: u64) -> Checked
+    requires { ⌜ directed ≡ S.hasDirection (j .axis) ⌝ }
     ensures { λ r. ⌜ r ≡ S.rotaryCheck j earlier index ⌝ }
 {
     let known = demand(known_letter(j.letter), refusal::ROTARY_LETTER, index);
@@ -102,7 +105,7 @@ fn rotary_check(j: RotaryJoint, earlier: u8, index: u64) -> Checked
         refusal::CHAIN_NOT_FINITE,
         index,
     );
-    let direction = demand(has_direction(j.axis), refusal::ROTARY_AXIS_ZERO, index);
+    let direction = demand(directed, refusal::ROTARY_AXIS_ZERO, index);
     let finite_pivot = demand(
         geometry::all_finite(j.pivot),
         refusal::CHAIN_NOT_FINITE,
@@ -114,12 +117,13 @@ fn rotary_check(j: RotaryJoint, earlier: u8, index: u64) -> Checked
     then(known, then(other, placed))
 }
 
-fn second_check(k: Kinematics) -> Checked
+fn second_check(k: Kinematics, directed: bool) -> Checked
+    requires { ⌜ directed ≡ cond (eqb (k .count) 2) (S.hasDirection (k .second .axis)) true ⌝ }
     ensures { λ r. ⌜ r ≡ S.secondCheck k ⌝ }
 {
     if k.count == 2 {
         let earlier = k.first;
-        return rotary_check(k.second, earlier.letter, 1);
+        return rotary_check(k.second, directed, earlier.letter, 1);
     }
     Checked::Passed
 }
@@ -133,23 +137,45 @@ pub fn one_or_two(count: u8) -> bool
     count < 3
 }
 
-// The chain check of the Rust, but for name and model.
-pub fn chain_check(k: Kinematics) -> Checked
+// The chain check, where it is known which axes have a direction: of the first rotary, of the second where there is one, and of the spindle.
+pub fn directed_check(k: Kinematics, first: bool, second: bool, spindle: bool) -> Checked
+    requires { ⌜ (first ≡ S.hasDirection (k .first .axis)) × (second ≡ cond (eqb (k .count) 2) (S.hasDirection (k .second .axis)) true) × (spindle ≡ S.hasDirection (k .«spindle_axis»)) ⌝ }
     ensures { λ r. ⌜ r ≡ S.chainCheck k ⌝ }
 {
     let count = demand(one_or_two(k.count), refusal::ROTARY_COUNT, 0);
-    let first = rotary_check(k.first, 0, 0);
-    let second = second_check(k);
+    let outer = rotary_check(k.first, first, 0, 0);
+    let inner = second_check(k, second);
     let finite_spindle = demand(
         geometry::all_finite(k.spindle_axis),
         refusal::CHAIN_NOT_FINITE,
         0,
     );
-    let direction = demand(has_direction(k.spindle_axis), refusal::SPINDLE_ZERO, 0);
+    let direction = demand(spindle, refusal::SPINDLE_ZERO, 0);
     then(
         count,
-        then(first, then(second, then(finite_spindle, direction))),
+        then(outer, then(inner, then(finite_spindle, direction))),
     )
+}
+
+fn second_directed(k: Kinematics) -> bool
+    ensures { λ r. ⌜ r ≡ cond (eqb (k .count) 2) (S.hasDirection (k .second .axis)) true ⌝ }
+{
+    if k.count == 2 {
+        let second = k.second;
+        return has_direction(second.axis);
+    }
+    true
+}
+
+// The chain check of the Rust, but for name and model.
+pub fn chain_check(k: Kinematics) -> Checked
+    ensures { λ r. ⌜ r ≡ S.chainCheck k ⌝ }
+{
+    let outer = k.first;
+    let first = has_direction(outer.axis);
+    let second = second_directed(k);
+    let spindle = has_direction(k.spindle_axis);
+    directed_check(k, first, second, spindle)
 }
 
 // No more than the limit in size.

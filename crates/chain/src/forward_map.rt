@@ -1,16 +1,21 @@
 // The forward map: from the gauge point and the angles to the tool's tip and axis in the part frame. Heads move the tool, inner joint first; the part frame follows by turning the tables back, outer
 // joint first.
 ghost use mathlib.Core.Path.{_≡_};
+ghost use Rattle.chain.specs.ChainBytes.{readChain};
 ghost use Rattle.chain.specs.Forward as S;
+ghost use Rattle.chain.specs.ReadySteps as Steps;
+use crate::ChainRead;
 use crate::Checked;
 use crate::Joints;
 use crate::Kinematics;
 use crate::Mount;
 use crate::Posed;
 use crate::Prepared;
+use crate::Ready;
 use crate::Spin;
 use crate::ToolPose;
 use crate::Turns;
+use crate::chain_bytes::read_chain;
 use crate::checks::chain_check;
 use crate::checks::demand;
 use crate::checks::joints_finite;
@@ -19,6 +24,7 @@ use crate::checks::pivots_within;
 use crate::checks::then;
 use crate::checks::within;
 use crate::prepare_chain::prepare;
+use crate::ready_chain::ready_from;
 use geometry::Direction;
 use geometry::Turn;
 use geometry::Vec3;
@@ -219,6 +225,56 @@ pub fn forward(k: Kinematics, j: Joints, tool_length: f64) -> Posed
         return Posed::Refused(r);
     }
     let p = prepare(k);
+    let turns = turns_of(p, j.a0, j.a1);
+    posed(reach(p, turns, j.xyz, tool_length))
+}
+
+// A length from 0 to 100,000, and joints within their limits: all of them are finite, then.
+fn numbers_good(j: Joints, tool_length: f64) -> bool
+    ensures { λ r. ⌜ r ≡ Steps.numbersGood j «tool_length» ⌝ }
+{
+    if tool_length < 0.0 {
+        return false;
+    }
+    if !within(tool_length, 100000.0) {
+        return false;
+    }
+    joints_within(j)
+}
+
+fn refused_by(checked: Checked) -> Posed
+    ensures { λ r. ⌜ r ≡ Steps.refusedBy checked ⌝ }
+{
+    match checked {
+        Checked::Passed => Posed::Refused(Refusal {
+            number: refusal::SPINDLE_ZERO,
+            at: 0,
+            letter: 0,
+        }),
+        Checked::Refused(r) => Posed::Refused(r),
+    }
+}
+
+// The first refusal, where there is one.
+fn refused_read(read: ChainRead, j: Joints, tool_length: f64) -> Posed
+    ensures { λ r. ⌜ r ≡ Steps.refusedRead read j «tool_length» ⌝ }
+{
+    match read {
+        ChainRead::Refused(r) => Posed::Refused(r),
+        ChainRead::Chain(k) => refused_by(forward_check(k, j, tool_length)),
+    }
+}
+
+// `forward` of a chain's bytes: the chain is prepared while it is checked, and the refusal is looked up only where there is one.
+pub fn forward_from(bytes: &[u8], j: Joints, tool_length: f64) -> Posed
+    ensures { λ r. ⌜ r ≡ S.forwardRead (readChain 72 (now (bytes .entry))) j «tool_length» ⌝ }
+{
+    if !numbers_good(j, tool_length) {
+        return refused_read(read_chain(bytes), j, tool_length);
+    }
+    let Ready::Served(p) = ready_from(bytes) else {
+        return refused_read(read_chain(bytes), j, tool_length);
+    };
     let turns = turns_of(p, j.a0, j.a1);
     posed(reach(p, turns, j.xyz, tool_length))
 }

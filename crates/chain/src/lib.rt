@@ -5,6 +5,7 @@ mod chain_bytes;
 mod checks;
 mod forward_map;
 mod prepare_chain;
+mod ready_chain;
 
 pub use bytes_at::byte_at;
 pub use bytes_at::number_at;
@@ -29,6 +30,7 @@ pub use checks::then;
 pub use checks::within;
 pub use forward_map::forward;
 pub use forward_map::forward_core;
+pub use forward_map::forward_from;
 pub use forward_map::head_point;
 pub use forward_map::head_vector;
 pub use forward_map::length_good;
@@ -39,7 +41,9 @@ pub use forward_map::tables_forth;
 pub use forward_map::turns_of;
 use geometry::Turn;
 use geometry::Vec3;
+pub use prepare_chain::checked_chain;
 pub use prepare_chain::prepare;
+pub use ready_chain::ready_from;
 use refusal::Refusal;
 
 // Which slide carries a rotary: a table turns the work, a head the tool.
@@ -131,4 +135,22 @@ pub enum Posed {
 pub enum ChainRead {
     Chain(Kinematics),
     Refused(Refusal),
+}
+
+// What `ready_from` answers: a chain that passes every check of its own, prepared.
+pub enum Ready {
+    Served(Prepared),
+    Unserved,
+}
+
+// An axis with length 1, and whether it has a direction.
+struct Heading {
+    unit: Vec3,
+    directed: bool,
+}
+
+// A chain's check, and the chain prepared: of use only where the check passed.
+pub struct CheckedChain {
+    pub checked: Checked,
+    pub prepared: Prepared,
 }

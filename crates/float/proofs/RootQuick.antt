@@ -1,13 +1,13 @@
 -- The root of what lies near 1: to first order half as far from 1, and what is left is far below half of the last place.
 use mathlib.Core.Path.{_≡_, refl, sym, ap, _∙_, subst}
-use mathlib.Core.Bool.{Bool, true, false, not, true≢false, false≢true}
+use mathlib.Core.Bool.{true, false, not, true≢false, false≢true}
 use mathlib.Core.Logic.{_⊎_, inl, inr}
 use Prim.Native.Nat.{ℕ, zero, suc, _+_, _-_, _*_, _/_, _%_, _^_, _≤_, _<_}
 use native.Mathlib.Nat.{le-trans, le-of-eq, lt-of-lt-of-le, mul-le-mul, mul-pos, not-le-of-lt}
 use native.Mathlib.Omega.{arith}
 use lib.Dec.{T, lit≤, lit<}
 use lib.Pow.{pow-pos}
-use lib.Ieee.{Float, nan, inf, fin, binary64, fits, toBits, ofBits, nanBits, isNan, ne, up, down}
+use lib.Ieee.{Float, nan, inf, fin, binary64, fits, toBits, ofBits, nanBits, isNan, ne, up}
 use lib.Ieee.Fits.{down-pos}
 use Rattle.float.proofs.Units.{le-or-lt, one-number}
 use Rattle.float.proofs.Choices.{nan-of}

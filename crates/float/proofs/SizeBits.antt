@@ -1,8 +1,7 @@
 -- The size of a float by its bit pattern: the same pattern with no sign.
 use mathlib.Core.Path.{_≡_, refl, sym, ap, _∙_, subst}
-use mathlib.Core.Bool.{Bool, true, false, not, cond, true≢false, false≢true}
+use mathlib.Core.Bool.{Bool, true, false, not, cond, false≢true}
 use Prim.Native.Nat.{ℕ, zero, suc, _+_, _%_, _^_, _≤_, _<_}
-use native.Mathlib.Nat.{le-of-eq, le-of-lt, lt-of-le-of-lt}
 use native.Mathlib.Omega.{arith}
 use lib.Dec.{T, lit≤}
 use lib.IntN.{ℤ}
@@ -11,7 +10,6 @@ use lib.Ieee.Bits.{ofBits-toBits}
 use Rattle.float.proofs.Units.{held}
 use Rattle.float.proofs.Pattern.{rank, bits-rank, rank-hi}
 use Rattle.float.proofs.Choices.{nan-of}
-use Rattle.float.proofs.Sizes.{size-is}
 use Rattle.float.proofs.RootGuess.{low-bits}
 use Rattle.float.specs.Helpers.{sizeOf}
 

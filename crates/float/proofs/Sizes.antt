@@ -1,21 +1,11 @@
 -- The size of a float: its value in units, and that a size is at most c exactly if the value lies from -c to c.
-use mathlib.Core.Path.{_≡_, refl, sym, ap, _∙_, subst}
-use mathlib.Core.Bool.{Bool, true, false, _&&_, true≢false, false≢true}
-use Prim.Native.Nat.{ℕ, zero, suc, _*_, _<_}
-use native.Mathlib.Omega.{arith}
-use lib.Dec.{T, eqb}
-use lib.Pow.{pow-pos}
-use native.Mathlib.Nat.{mul-pos}
-use lib.Ieee.Fits.{up-pos}
-use lib.IntN.{ℤ, pos, negsuc}
-use lib.Ieee.{Float, nan, inf, fin, binary64, up, down, neg, lt, eq, le, fits, isNan, ofBits}
-use lib.Ieee.Bits.{ofBits-fits}
-use borrow.Author.Tests.{ltb-true, eqb-true}
-use Rattle.float.proofs.Units.{one-float}
+use mathlib.Core.Path.{_≡_, refl, sym, _∙_, subst}
+use mathlib.Core.Bool.{Bool, true, false, false≢true}
+use Prim.Native.Nat.{ℕ, _*_}
+use lib.Ieee.{Float, nan, inf, fin, up, down, neg, lt, eq, le, isNan}
 use Rattle.float.proofs.Order as order
-use Rattle.float.proofs.Zeros.{nought-is, neg-below, zero-eq, below-inf, not-zero, nan-eq, inf-eq}
-use Rattle.float.specs.Units.{U, Is}
-use Rattle.float.specs.Helpers.{nought, sizeOf}
+use Rattle.float.specs.Units.{Is}
+use Rattle.float.specs.Helpers.{sizeOf}
 
 le-size : (x : Float) → isNan x ≡ false → le x (sizeOf x) ≡ true
 unfolding sizeOf

@@ -10,13 +10,12 @@ use Rattle.chain.specs.declared.Checked.{Checked}
 use Rattle.chain.specs.declared.Checked.the-variants as Checked
 use Rattle.chain.specs.declared.ChainRead.{ChainRead}
 use Rattle.chain.specs.declared.ChainRead.the-variants as ChainRead
-use Rattle.chain.specs.declared.Joints.{Joints}
 use Rattle.chain.specs.declared.ToolPose.{ToolPose}
 use Rattle.chain.specs.declared.Posed.{Posed}
 use Rattle.chain.specs.declared.Posed.the-variants as Posed
 use Rattle.chain.specs.ChainBytes.{readChain}
 use Rattle.chain.specs.Check.{then, chainCheck, chainSizes}
-use Rattle.chain.specs.Forward.{forward}
+use Rattle.chain.specs.Forward.{forwardRead}
 use Rattle.maztubel.specs.Lent.{jointsIn}
 
 -- ---- the chain check
@@ -28,10 +27,6 @@ unfoldable pub checkChain : List ℕ → Checked
 checkChain chain = checkRead (readChain 72 chain)
 
 -- ---- forward
-abbrev pub forwardRead : ChainRead → Joints → Float → Posed
-forwardRead (ChainRead.Refused r) j tool = Posed.Refused r
-forwardRead (ChainRead.Chain k) j tool = forward k j tool
-
 -- `room` is how many numbers the lent pose has
 unfoldable pub forwardOf : List ℕ → List Float → Float → ℕ → Posed
 forwardOf chain joints tool room =

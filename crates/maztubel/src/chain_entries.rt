@@ -8,7 +8,6 @@ use crate::lent::joints_in;
 use crate::lent::put_vector;
 use chain::ChainRead;
 use chain::Checked;
-use chain::Joints;
 use chain::Posed;
 use refusal::Refusal;
 
@@ -58,7 +57,7 @@ fn forward_of(chain: &[u8], joints: &[f64], tool_length: f64, room: usize) -> Po
     if joints.len() == 5 {
         if room == 6 {
             let j = joints_in(joints);
-            return forward_read(chain::read_chain(chain), j, tool_length);
+            return chain::forward_from(chain, j, tool_length);
         }
     }
     Posed::Refused(Refusal {
@@ -66,15 +65,6 @@ fn forward_of(chain: &[u8], joints: &[f64], tool_length: f64, room: usize) -> Po
         at: 0,
         letter: 0,
     })
-}
-
-fn forward_read(read: ChainRead, j: Joints, tool_length: f64) -> Posed
-    ensures { λ r. ⌜ r ≡ S.forwardRead read j «tool_length» ⌝ }
-{
-    match read {
-        ChainRead::Refused(r) => Posed::Refused(r),
-        ChainRead::Chain(k) => chain::forward(k, j, tool_length),
-    }
 }
 
 fn posed_check(answer: Posed) -> Checked

@@ -7,16 +7,13 @@ use Rattle.maztubel.proofs.chain_entries.forward_of.Tie as tie
 joints-in-requires : tie.Need-joints-in-requires
 joints-in-requires c κs = search needs
 
-read-chain-requires : tie.Need-read-chain-requires
-read-chain-requires c κs = search needs
-
-forward-read-requires : tie.Need-forward-read-requires
-forward-read-requires c κs = search needs
+forward-from-requires : tie.Need-forward-from-requires
+forward-from-requires c κs = search needs
 
 returns : tie.Need-returns
 unfolding forwardOf
 returns c =
-    rw (c .forward-read .ensures, c .before .read-chain .ensures, c .before .before .joints-in .ensures, eq-eqb _ _ (c .before .before .before .before .if1 .taken), eq-eqb _ _ (c .before .before .before .if2 .taken))
+    rw (c .forward-from .ensures, c .before .joints-in .ensures, eq-eqb _ _ (c .before .before .before .if1 .taken), eq-eqb _ _ (c .before .before .if2 .taken))
 
 returns-2 : tie.Need-returns-2
 unfolding forwardOf
@@ -27,4 +24,4 @@ unfolding forwardOf
 returns-3 c = rw (ne-eqb _ _ (c .if1 .left))
 
 pub forward-of-spec : {M : Type 1} → statement M
-forward-of-spec = tie.close (tie.spec joints-in-requires read-chain-requires forward-read-requires returns returns-2 returns-3)
+forward-of-spec = tie.close (tie.spec joints-in-requires forward-from-requires returns returns-2 returns-3)

@@ -1,0 +1,89 @@
+-- The words in which the inner functions of `ready_chain` promise their results. A reader who believes `Ready` and `Forward` needs none of them.
+use mathlib.Core.Bool.{Bool, true, not, _&&_, cond}
+use mathlib.Core.List.{List}
+use Prim.Native.Nat.{ℕ, _+_, _*_}
+use lib.Dec.{eqb}
+use lib.Ieee as Ieee
+use lib.Ieee.{Float}
+use Rattle.float.specs.Helpers.{nought}
+use Rattle.geometry.specs.declared.Vec3.{Vec3}
+use Rattle.geometry.specs.declared.Direction.{Direction}
+use Rattle.geometry.specs.declared.Direction.the-variants.{Unit}
+use Rattle.geometry.specs.Direction.{unitDirection, along}
+use Rattle.refusal.specs.Numbers.{refusal, spindleZero}
+use Rattle.chain.specs.declared.Mount.{Mount}
+use Rattle.chain.specs.declared.Mount.the-variants.{Absent}
+use Rattle.chain.specs.declared.RotaryJoint.{RotaryJoint}
+use Rattle.chain.specs.declared.Joints.{Joints}
+use Rattle.chain.specs.declared.Prepared.{Prepared}
+use Rattle.chain.specs.declared.Checked.{Checked}
+use Rattle.chain.specs.declared.Checked.the-variants as Checked
+use Rattle.chain.specs.declared.ChainRead.{ChainRead}
+use Rattle.chain.specs.declared.ChainRead.the-variants as ChainRead
+use Rattle.chain.specs.declared.Posed.{Posed}
+use Rattle.chain.specs.declared.Posed.the-variants as Posed
+use Rattle.chain.specs.declared.Ready.{Ready}
+use Rattle.chain.specs.declared.Ready.the-variants.{Served, Unserved}
+use Rattle.chain.specs.Bytes.{byteAt, vectorAt}
+use Rattle.chain.specs.Check.{knownLetter, otherLetter, travelGood, allWithin, within, longest, jointsWithin}
+use Rattle.chain.specs.ChainBytes.{zeros, rotaryFields, rotaryAt, carrierOf, zeroVector}
+use Rattle.chain.specs.Prepared.{mountOf}
+use Rattle.chain.specs.Forward.{forwardCheck}
+use Rattle.chain.specs.Ready.{passed}
+
+-- ---- what must be, the directions aside
+unfoldable pub rotaryGood : RotaryJoint → ℕ → Bool
+rotaryGood j earlier = knownLetter (j .letter) && otherLetter (j .letter) earlier && travelGood (j .limits) && allWithin (j .pivot) longest
+
+unfoldable pub recordGood : List ℕ → ℕ → ℕ → Bool
+recordGood bytes at earlier = passed (rotaryFields bytes at) && rotaryGood (rotaryAt bytes at) earlier
+
+unfoldable pub firstGood : List ℕ → Bool
+firstGood bytes = passed (zeros bytes 1 7) && recordGood bytes 8 0
+
+unfoldable pub secondGood : List ℕ → ℕ → Bool
+secondGood bytes count = cond (eqb count 2) (recordGood bytes 80 (byteAt bytes 8)) true
+
+-- ---- what it is
+unfoldable pub secondAxis : List ℕ → ℕ → Direction
+secondAxis bytes count = cond (eqb count 2) (unitDirection (vectorAt bytes 88)) (Unit zeroVector)
+
+unfoldable pub mountAt : List ℕ → ℕ → Mount
+mountAt bytes at = mountOf (carrierOf (byteAt bytes (at + 1)))
+
+unfoldable pub secondMount : List ℕ → ℕ → Mount
+secondMount bytes count = cond (eqb count 2) (mountAt bytes 80) Absent
+
+unfoldable pub secondPivot : List ℕ → ℕ → Vec3
+secondPivot bytes count = cond (eqb count 2) (vectorAt bytes 112) zeroVector
+
+unfoldable pub preparedAt : List ℕ → ℕ → Vec3 → Vec3 → Vec3 → Prepared
+preparedAt bytes count axis inner spindle = record {
+  first = record { mount = mountAt bytes 8; axis = axis; pivot = vectorAt bytes 40 };
+  second = record { mount = secondMount bytes count; axis = inner; pivot = secondPivot bytes count };
+  spindle = spindle;
+}
+
+unfoldable pub readyCounted : List ℕ → ℕ → Ready
+readyCounted bytes count =
+    cond (not (firstGood bytes)) Unserved
+    (cond (not (secondGood bytes count)) Unserved
+    (along (unitDirection (vectorAt bytes 16)) Unserved
+    (λ axis.
+    along (secondAxis bytes count) Unserved
+    (λ inner.
+    along (unitDirection (vectorAt bytes (8 + 72 * count))) Unserved
+    (λ spindle.
+    Served (preparedAt bytes count axis inner spindle))))))
+
+-- ---- forward: its numbers, and its refusal where there is one
+unfoldable pub numbersGood : Joints → Float → Bool
+numbersGood j tool = not (Ieee.lt tool nought) && within tool longest && jointsWithin j
+
+abbrev pub refusedBy : Checked → Posed
+refusedBy Checked.Passed = Posed.Refused (refusal spindleZero 0)
+refusedBy (Checked.Refused r) = Posed.Refused r
+
+abbrev pub refusedRead : ChainRead → Joints → Float → Posed
+refusedRead (ChainRead.Refused r) j tool = Posed.Refused r
+refusedRead (ChainRead.Chain k) j tool = refusedBy (forwardCheck k j tool)
