@@ -1,4 +1,4 @@
--- The words in which the inner functions of `ready_chain` promise their results. A reader who believes `Ready` and `Forward` needs none of them.
+-- The words in which the inner functions of `ready_from` and `forward_from` promise their results. A reader who believes `Ready` and `Forward` needs none of them.
 use mathlib.Core.Bool.{Bool, true, not, _&&_, cond}
 use mathlib.Core.List.{List}
 use Prim.Native.Nat.{ℕ, _+_, _*_}
