@@ -27,6 +27,59 @@ impl RotaryLimits {
 }
 ";
 
+/// Stands behind the copies of kinematics.rs, whose own text stays: how `solve_path` comes to one pose, told by its own steps, and
+/// the clearance that it holds to the cone.
+const OF_A_POSE: &str = "
+#[derive(Clone, Copy, Debug, PartialEq)]
+pub(crate) enum Way {
+    Alone,
+    Closest,
+    Other,
+    Locked,
+    Pole,
+}
+
+impl Kinematics {
+    pub(crate) fn clearance(&self, axis: Vec3) -> Option<f64> {
+        let frame = singular_frame(self)?;
+        Some(pole_clearance_deg(unit_direction(axis)?, frame.direction))
+    }
+
+    /// Whether `sp1` and `sp2` let an axis by, which the test of the axis that is reached may refuse.
+    pub(crate) fn nearly_reaches(&self, axis: Vec3) -> bool {
+        let (Some(spindle), Some(target)) = (unit_direction(self.spindle_axis), unit_direction(axis)) else {
+            return false;
+        };
+        self.orientation_angles(spindle, target, [0.0; 2]).is_ok_and(|raw| !raw.is_empty())
+    }
+
+    /// Of a pose that is solved; and the two solutions that it has outside the cone, the closest first.
+    pub(crate) fn way(&self, pose: &ToolPose, previous: [f64; 2], cone_deg: f64) -> Option<(Way, Vec<[f64; 2]>)> {
+        let target = unit_direction(pose.axis)?;
+        if let Some(frame) = singular_frame(self)
+            && in_singular_cone(pose.axis, frame.direction, cone_deg)
+        {
+            let locked = locked_joints(self, pose, target, frame, previous).ok()?;
+            let strays = angle_between_deg(self.forward(&locked, PATH_TOOL_LENGTH).ok()?.axis, target) > cone_deg + 1e-6;
+            return Some((if strays { Way::Pole } else { Way::Locked }, Vec::new()));
+        }
+        let count = self.rotaries.len();
+        let all = self.unbounded_solutions(pose, PATH_TOOL_LENGTH, previous).ok()?;
+        let mut all: Vec<[f64; 2]> = all.iter().map(|sol| unwind_angles(sol.angles, previous, count)).collect();
+        all.sort_by(|l, r| {
+            let [left, right] = [l, r].map(|angles| rotary_distance(*angles, previous, count));
+            left.total_cmp(&right).then_with(|| angle_order(*l, *r))
+        });
+        let way = match all[..] {
+            [_, _] if axis_outside(self, all[0]).is_some() => Way::Other,
+            [_, _] => Way::Closest,
+            _ => Way::Alone,
+        };
+        Some((way, all))
+    }
+}
+";
+
 fn main() {
     let root = Path::new(env!("CARGO_MANIFEST_DIR"));
     link_archives(&root.join("../target/staticlib"));
@@ -65,7 +118,7 @@ fn copy(name: &str, sources: &Path, out: &Path, change: fn(&str) -> String) {
         let text = fs::read_to_string(sources.join(format!("{file}.rs")))
             .unwrap_or_else(|error| panic!("{file}.rs of the Rust cannot be read: {error}"));
         let text = match file {
-            "kinematics" => change(&text),
+            "kinematics" => change(&text) + OF_A_POSE,
             "rotary" => text + UNCHECKED_LIMITS,
             _ => text,
         };

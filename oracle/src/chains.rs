@@ -216,7 +216,7 @@ fn axis_beside(other: [f64; 3], random: &mut Random) -> [f64; 3] {
 }
 
 /// Each component at most 1 in size, and one of them at least 1/16.
-fn direction(random: &mut Random) -> [f64; 3] {
+pub fn direction(random: &mut Random) -> [f64; 3] {
     let mut axis = [(); 3].map(|()| within(1.0, random));
     if axis.iter().all(|x| x.abs() < 1.0 / 16.0) {
         axis[slot(random)] = signed(0.5, random);
@@ -254,7 +254,7 @@ fn tiny(random: &mut Random) -> f64 {
 }
 
 /// A direction without a length that can be used: zero, or one that overflows.
-fn bad_axis(random: &mut Random) -> [f64; 3] {
+pub fn bad_axis(random: &mut Random) -> [f64; 3] {
     match random.below(4) {
         0 => [0.0, -0.0, 0.0],
         1 => [(); 3].map(|()| within(SMALLEST, random)),
@@ -263,7 +263,7 @@ fn bad_axis(random: &mut Random) -> [f64; 3] {
     }
 }
 
-fn slot(random: &mut Random) -> usize {
+pub fn slot(random: &mut Random) -> usize {
     random.below(3) as usize
 }
 

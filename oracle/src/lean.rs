@@ -3,7 +3,7 @@
 
 use crate::chains::Chain;
 
-type Vector = [f64; 3];
+pub type Vector = [f64; 3];
 
 /// A rotary, its axis of length 1.
 #[derive(Clone, Copy, Default)]
@@ -91,19 +91,19 @@ impl Spin {
 
 /// Rodrigues' formula.
 #[inline]
-fn rotated(axis: Vector, v: Vector, sine: f64, cosine: f64) -> Vector {
+pub fn rotated(axis: Vector, v: Vector, sine: f64, cosine: f64) -> Vector {
     let along = dot(axis, v) * (1.0 - cosine);
     let across = sum(scaled(v, cosine), scaled(cross(axis, v), sine));
     sum(across, scaled(axis, along))
 }
 
 #[inline]
-fn unit(v: Vector) -> Vector {
+pub fn unit(v: Vector) -> Vector {
     scaled(v, 1.0 / dot(v, v).sqrt())
 }
 
 #[inline]
-fn sum(v: Vector, w: Vector) -> Vector {
+pub fn sum(v: Vector, w: Vector) -> Vector {
     [v[0] + w[0], v[1] + w[1], v[2] + w[2]]
 }
 
@@ -113,17 +113,17 @@ fn difference(v: Vector, w: Vector) -> Vector {
 }
 
 #[inline]
-fn scaled(v: Vector, factor: f64) -> Vector {
+pub fn scaled(v: Vector, factor: f64) -> Vector {
     v.map(|x| x * factor)
 }
 
 #[inline]
-fn dot(v: Vector, w: Vector) -> f64 {
+pub fn dot(v: Vector, w: Vector) -> f64 {
     v[0] * w[0] + v[1] * w[1] + v[2] * w[2]
 }
 
 #[inline]
-fn cross(v: Vector, w: Vector) -> Vector {
+pub fn cross(v: Vector, w: Vector) -> Vector {
     [
         v[1] * w[2] - v[2] * w[1],
         v[2] * w[0] - v[0] * w[2],

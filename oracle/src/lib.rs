@@ -7,8 +7,12 @@ pub mod angles;
 pub mod calls;
 pub mod cases;
 pub mod chains;
+#[cfg(original)]
+pub mod courses;
 pub mod exact;
 pub mod floats;
+#[cfg(original)]
+pub mod from_libm;
 #[cfg(original)]
 pub mod inverse_calls;
 #[cfg(original)]
@@ -19,12 +23,15 @@ pub mod inverse_reference;
 pub mod inverse_tally;
 pub mod joints;
 pub mod lean;
+pub mod machines;
 pub mod maztubel;
 pub mod models;
 pub mod numbers;
 #[cfg(original)]
 pub mod original;
 pub mod parts;
+#[cfg(original)]
+pub mod paths;
 pub mod probe;
 pub mod random;
 pub mod reading;
@@ -33,5 +40,9 @@ pub mod reference;
 #[cfg(original)]
 pub mod rust;
 #[cfg(original)]
+pub mod solved;
+#[cfg(original)]
 pub mod tally;
 pub mod targets;
+#[cfg(original)]
+pub mod ways;

@@ -111,6 +111,19 @@ unsafe extern "C" {
         at: &mut u64,
         letter: &mut u8,
     ) -> u32;
+    fn maztubel_solve_path(
+        chain: *const u8,
+        chain_length: usize,
+        poses: *const f64,
+        poses_length: usize,
+        start: *const f64,
+        start_length: usize,
+        cone: f64,
+        joints: *mut f64,
+        joints_length: usize,
+        at: &mut u64,
+        letter: &mut u8,
+    ) -> u32;
 }
 
 pub fn sine(x: f64) -> Result<f64, u32> {
@@ -322,6 +335,33 @@ pub fn link_in_part(
             carrier.len(),
             frame.as_mut_ptr(),
             frame.len(),
+            at,
+            letter,
+        )
+    }
+}
+
+/// What a path is solved from.
+#[derive(Clone, Copy)]
+pub struct Course<'a> {
+    pub chain: &'a [u8],
+    pub poses: &'a [f64],
+    pub start: &'a [f64],
+    pub cone: f64,
+}
+
+pub fn solve_path(course: Course, joints: &mut [f64], at: &mut u64, letter: &mut u8) -> u32 {
+    unsafe {
+        maztubel_solve_path(
+            course.chain.as_ptr(),
+            course.chain.len(),
+            course.poses.as_ptr(),
+            course.poses.len(),
+            course.start.as_ptr(),
+            course.start.len(),
+            course.cone,
+            joints.as_mut_ptr(),
+            joints.len(),
             at,
             letter,
         )

@@ -163,7 +163,7 @@ pub fn pivots_fit(chain: &Chain) -> bool {
 }
 
 /// The angle that the chain may not use too.
-fn joints_fit(joints: &[f64]) -> bool {
+pub(crate) fn joints_fit(joints: &[f64]) -> bool {
     let (position, angles) = joints.split_at(3);
     let far = position.iter().any(|&x| exceeds(x, MOST_POSITION));
     !far && !angles.iter().any(|&x| exceeds(x, MOST_ANGLE))

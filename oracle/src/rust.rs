@@ -38,11 +38,12 @@ fn stand_in(link: &Link, links: &[Link]) -> String {
 macro_rules! on_plain_numbers {
     ($build:ident) => {
         pub mod $build {
-            use super::{Link, Machine, chain_name, link_names};
+            use super::{Chain, Link, Machine, chain_name, link_names};
             use crate::chains::Rotary;
             use crate::models::BOX;
             use crate::original::IrError;
             use crate::original::$build::geom::Vec3;
+            pub use crate::original::$build::kinematics::solve_path as solve;
             use crate::original::$build::kinematics::*;
             use crate::original::$build::rotary::RotaryLimits;
 
@@ -177,6 +178,42 @@ macro_rules! on_plain_numbers {
             ) -> Told<Vec<f64>> {
                 let frame = chain.link_in_part(&joint_set(joints), carrier);
                 frame.map(of_frame).map_err(words)
+            }
+
+            pub fn setup(chain: &Chain) -> FiveAxisSetup {
+                FiveAxisSetup {
+                    kinematics: kinematics(&Machine {
+                        name_length: 1,
+                        chain,
+                        links: &[],
+                    }),
+                    policy: SolutionPolicy::Nearest,
+                }
+            }
+
+            /// The tip and the axis, as `forward` gives them.
+            pub fn tool_pose(numbers: &[f64]) -> ToolPose {
+                ToolPose {
+                    tip: vector(numbers),
+                    axis: vector(&numbers[3..]),
+                }
+            }
+
+            /// The position and the angles of each pose. The start is none or that of one pose.
+            pub fn solve_path(
+                setup: &FiveAxisSetup,
+                poses: &[f64],
+                start: &[f64],
+                cone: f64,
+            ) -> Told<Vec<f64>> {
+                let poses: Vec<ToolPose> = poses.chunks(6).map(tool_pose).collect();
+                let start = (!start.is_empty()).then(|| joint_set(start));
+                let joints = solve(setup, &poses, start, cone).map_err(words)?;
+                let numbers = |set: &Joints| {
+                    let [first, second] = set.angles;
+                    [set.xyz.x(), set.xyz.y(), set.xyz.z(), first, second]
+                };
+                Ok(joints.iter().flat_map(numbers).collect())
             }
 
             fn of_frame(frame: Rigid) -> Vec<f64> {

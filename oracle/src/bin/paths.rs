@@ -1,0 +1,72 @@
+//! Compares the exported solve_path with the Rust, whose sine, cosine, arctangent and arccosine are the exported ones, and with
+//! document 01 where it adds to the Rust:
+//!
+//!     paths [SEED] [THOUSANDS]
+//!
+//! on THOUSANDS (320) thousand paths of 0 to 500 poses, sixteen of 5,000, one of 100,000 and three of a pose more. Every answer is
+//! compared: the number, the pose, rotary or offset, the letter, and each lent number bit for bit. Prints how often each refusal
+//! and each way to a pose was met, the first differences, and the largest distances from the Rust with libm. Ends with status 1
+//! where there is a difference, or where something was not met.
+
+use std::process::ExitCode;
+
+#[cfg(original)]
+fn main() -> ExitCode {
+    use comparison::{FEWEST, PATHS, compare_long, compare_part};
+    use oracle::parts::{argument, shared_out};
+    use oracle::random::Random;
+    use oracle::ways::Ways;
+    let seed = argument(1, 1);
+    let thousands = argument(2, 320);
+    println!("seed {seed}, {thousands} thousand paths");
+    let parts = (1000 * thousands).div_ceil(PATHS);
+    let mut total = Ways::default();
+    for ways in shared_out(seed, parts, Ways::default, compare_part) {
+        total.add(ways);
+    }
+    compare_long(&mut total, &mut Random::new(seed));
+    total.print((parts * FEWEST).div_ceil(10))
+}
+
+#[cfg(not(original))]
+fn main() -> ExitCode {
+    println!("the Rust that is compared is not beside this repository");
+    ExitCode::from(2)
+}
+
+#[cfg(original)]
+mod comparison {
+    use oracle::paths::Path;
+    use oracle::random::Random;
+    use oracle::solved::MOST_POSES;
+    use oracle::ways::Ways;
+
+    /// How many paths there are in a part.
+    pub const PATHS: u64 = 1000;
+
+    /// How often each answer and each way must be met in ten parts, on the average.
+    pub const FEWEST: u64 = 4;
+
+    pub fn compare_part(ways: &mut Ways, random: &mut Random) {
+        for _ in 0..PATHS {
+            ways.compare(&Path::drawn(random));
+        }
+    }
+
+    /// Panics where a long path that must be served is not.
+    pub fn compare_long(ways: &mut Ways, random: &mut Random) {
+        for _ in 0..16 {
+            ways.compare(&Path::long(5000, random));
+        }
+        ways.compare(&Path::long(MOST_POSES, random));
+        let mut path = Path::long(MOST_POSES + 1, random);
+        for room in [path.room, 0] {
+            path.room = room;
+            ways.compare(&path);
+        }
+        path.start = vec![f64::NAN; 5];
+        ways.compare(&path);
+        assert_eq!(ways.met("served, 5000 poses"), 16);
+        assert_eq!(ways.met("served, 100000 poses"), 1);
+    }
+}

@@ -1,0 +1,384 @@
+//! What comes of calling solve_path: how often each answer was met, and each way to a pose on each type of machine, the
+//! differences from what is expected, and how far the answers lie from those that the Rust gives with libm.
+
+use crate::calls::Told;
+use crate::chains::Chain;
+use crate::from_libm::FromLibm;
+use crate::lean::{cross, dot, unit};
+use crate::original::ported::kinematics::Way;
+use crate::paths::{JOINTS, POSE, Path};
+use crate::reading;
+use crate::rust::ported;
+use crate::solved::{Answer, Refusal, ask, expected, reduced, telling};
+use std::collections::BTreeMap;
+use std::process::ExitCode;
+
+/// Of the differences, as many are shown with all their inputs.
+const SHOWN: usize = 10;
+
+/// Of a path so many poses are looked at for the ways to them.
+const LOOKED_AT: usize = 40;
+
+/// The numbers that solve_path can answer, 0 for a path that is served; 16 and 17 are counted apart at a pose and before the first.
+const ANSWERED: [&str; 24] = [
+    "served",
+    "3",
+    "4",
+    "5",
+    "6",
+    "7",
+    "8",
+    "9",
+    "16",
+    "16 at a pose",
+    "17",
+    "17 at a pose",
+    "18",
+    "20",
+    "23",
+    "24 A",
+    "24 B",
+    "24 C",
+    "24 in the cone",
+    "25",
+    "25 within 1e-7 of the reach",
+    "26",
+    "28",
+    "29",
+];
+
+/// How a pose is solved: outside the cone, on every machine the first and on those of two rotaries the next, then inside it.
+const EXACT: [&str; 5] = [
+    "exact: one solution",
+    "exact: parallel rotaries",
+    "exact: the closest of two",
+    "exact: the farther of two",
+    "exact: the farther, 90 degrees off",
+];
+const CONE: [&str; 2] = ["cone: locked", "cone: the pole"];
+
+/// What a pose meets exactly.
+const EXACTLY: [&str; 5] = [
+    "two solutions as near",
+    "on the cone's border",
+    "on a limit",
+    "half a turn on",
+    "at 36,000 degrees",
+];
+
+/// The machines, each with the limits of its rotaries.
+const MACHINES: [&str; 6] = ["T", "H", "TT", "HH", "TH", "HT"];
+const LIMITED: [&str; 4] = [
+    "no limits",
+    "first limited",
+    "second limited",
+    "both limited",
+];
+
+#[derive(Default)]
+pub struct Ways {
+    met: BTreeMap<String, u64>,
+    poses: u64,
+    differences: u64,
+    examples: Vec<String>,
+    from_libm: FromLibm,
+}
+
+impl Ways {
+    /// Calls the export, and holds what it tells to what it must tell.
+    pub fn compare(&mut self, path: &Path) {
+        self.hold(path, &ask(path));
+    }
+
+    pub fn hold(&mut self, path: &Path, told: &Told) {
+        let answer = expected(path);
+        let must = telling(path, &answer);
+        self.count(answered(&answer));
+        let all_finite = answer.iter().flatten().all(|x| x.is_finite());
+        if *told != must || !all_finite {
+            self.differences += 1;
+            if self.examples.len() < SHOWN {
+                self.examples.push(example(path, told));
+            }
+        } else if let Ok(joints) = &answer {
+            self.poses += (joints.len() / JOINTS) as u64;
+            self.look(path, joints);
+        } else if let Err(refusal) = &answer
+            && refusal.clears
+        {
+            self.look_at_refusal(path, refusal);
+        }
+    }
+
+    fn count(&mut self, what: String) {
+        *self.met.entry(what).or_default() += 1;
+    }
+
+    /// At a path that is served.
+    fn look(&mut self, path: &Path, joints: &[f64]) {
+        let chain = reading::chain(&path.chain).expect("a chain that is served");
+        self.count(machine(&chain));
+        if path.poses.len() / POSE >= 5000 {
+            self.count(format!("served, {} poses", path.poses.len() / POSE));
+        }
+        let rust = ported::setup(&chain).kinematics;
+        let mut previous = match path.start[..] {
+            [_, _, _, first, second] => [first, second],
+            _ => [0.0; 2],
+        };
+        let poses = path.poses.chunks(POSE).zip(joints.chunks(JOINTS));
+        for (pose, set) in poses.take(LOOKED_AT) {
+            let axis = ported::tool_pose(pose).axis;
+            let way = rust.way(&ported::tool_pose(pose), previous, path.cone);
+            let (way, all) = way.expect("a pose that is solved");
+            self.count(format!("{}, {}", words(way, &all, &chain), kind(&chain)));
+            self.meet(EXACTLY[0], as_near(&all, previous));
+            let in_cone = matches!(way, Way::Locked | Way::Pole);
+            self.meet(
+                EXACTLY[1],
+                in_cone && rust.clearance(axis) == Some(path.cone),
+            );
+            for (slot, rotary) in chain.present().enumerate() {
+                let angle = set[3 + slot];
+                let limit = rotary.limited == 1 && rotary.limits.contains(&angle);
+                self.meet(EXACTLY[2], limit);
+                self.meet(EXACTLY[3], (angle - previous[slot]).abs() == 180.0);
+                self.meet(EXACTLY[4], angle.abs() == 36_000.0);
+            }
+            previous = [set[3], set[4]];
+        }
+        self.from_libm.see(path, &chain, joints);
+    }
+
+    fn meet(&mut self, what: &str, met: bool) {
+        if met {
+            self.count(what.to_owned());
+        }
+    }
+
+    /// At a pose that is refused.
+    fn look_at_refusal(&mut self, path: &Path, refusal: &Refusal) {
+        let chain = reading::chain(&path.chain).expect("a chain whose poses are looked at");
+        let rust = ported::setup(&chain).kinematics;
+        let axis = ported::tool_pose(&path.poses[POSE * refusal.at as usize..]).axis;
+        let in_cone = rust
+            .clearance(axis)
+            .is_some_and(|degrees| degrees <= path.cone);
+        self.meet("24 in the cone", refusal.number == 24 && in_cone);
+        let nearly = refusal.number == 25 && rust.nearly_reaches(axis);
+        self.meet("25 within 1e-7 of the reach", nearly);
+    }
+
+    pub fn add(&mut self, more: Ways) {
+        for (what, count) in more.met {
+            *self.met.entry(what).or_default() += count;
+        }
+        self.poses += more.poses;
+        self.differences += more.differences;
+        self.examples.extend(more.examples);
+        self.from_libm.add(more.from_libm);
+    }
+
+    pub fn differences(&self) -> u64 {
+        self.differences
+    }
+
+    pub fn met(&self, what: &str) -> u64 {
+        self.met.get(what).copied().unwrap_or(0)
+    }
+
+    /// Status 1 where there is a difference, or where something was met less often than `fewest` times.
+    pub fn print(&self, fewest: u64) -> ExitCode {
+        let mut rare = Vec::new();
+        for what in all() {
+            let count = self.met(&what);
+            println!("{what:48} {count:12}");
+            if count < fewest {
+                rare.push(what);
+            }
+        }
+        for (what, count) in self
+            .met
+            .iter()
+            .filter(|(what, _)| what.starts_with("served, "))
+        {
+            println!("{what:48} {count:12}");
+        }
+        println!("{} poses of served paths", self.poses);
+        self.from_libm.print();
+        for what in &rare {
+            println!("met less often than {fewest} times: {what}");
+        }
+        for example in self.examples.iter().take(SHOWN) {
+            println!("{example}");
+        }
+        println!("paths: {} differences", self.differences);
+        ExitCode::from(u8::from(self.differences > 0 || !rare.is_empty()))
+    }
+}
+
+/// All that must be met.
+fn all() -> Vec<String> {
+    let mut all: Vec<String> = ANSWERED.iter().map(|&words| words.to_owned()).collect();
+    for machine in MACHINES {
+        let states = if machine.len() == 1 { 2 } else { 4 };
+        all.extend(
+            LIMITED[..states]
+                .iter()
+                .map(|limits| format!("{machine}, {limits}")),
+        );
+    }
+    let on = |ways: &[&str], machine: &str| -> Vec<String> {
+        ways.iter().map(|way| format!("{way}, {machine}")).collect()
+    };
+    for machine in MACHINES {
+        let exact = if machine.len() == 1 { 1 } else { EXACT.len() };
+        all.extend(on(&EXACT[..exact], machine));
+    }
+    for machine in &MACHINES[2..] {
+        all.extend(on(&CONE, machine));
+    }
+    all.extend(EXACTLY.map(str::to_owned));
+    all
+}
+
+/// Which of `EXACT` or of `CONE`.
+fn words(way: Way, all: &[[f64; 2]], chain: &Chain) -> &'static str {
+    let apart = |slot: usize| (all[0][slot] - all[1][slot]).abs();
+    match way {
+        Way::Alone if chain.count == 2 && parallel(chain) => EXACT[1],
+        Way::Alone => EXACT[0],
+        Way::Closest => EXACT[2],
+        Way::Other if apart(0).max(apart(1)) == 90.0 => EXACT[4],
+        Way::Other => EXACT[3],
+        Way::Locked => CONE[0],
+        Way::Pole => CONE[1],
+    }
+}
+
+fn parallel(chain: &Chain) -> bool {
+    let [first, second] = chain.rotaries.map(|rotary| unit(rotary.axis));
+    let across = cross(first, second);
+    dot(across, across).sqrt() < 1e-9
+}
+
+fn as_near(all: &[[f64; 2]], previous: [f64; 2]) -> bool {
+    let distance = |angles: &[f64; 2]| {
+        let [first, second] = [0, 1].map(|slot| angles[slot] - previous[slot]);
+        (first * first + second * second).sqrt()
+    };
+    matches!(all, [one, other] if distance(one) == distance(other))
+}
+
+fn answered(answer: &Answer) -> String {
+    match answer {
+        Ok(_) => "served".to_owned(),
+        Err(refusal) => match (refusal.number, refusal.clears) {
+            (24, _) => format!("24 {}", char::from(refusal.letter)),
+            (number @ (16 | 17), true) => format!("{number} at a pose"),
+            (number, _) => number.to_string(),
+        },
+    }
+}
+
+fn kind(chain: &Chain) -> String {
+    let carrier = |carrier| if carrier == 0 { 'T' } else { 'H' };
+    chain
+        .present()
+        .map(|rotary| carrier(rotary.carrier))
+        .collect()
+}
+
+fn machine(chain: &Chain) -> String {
+    let limited = chain.present().map(|rotary| usize::from(rotary.limited));
+    let state: usize = limited
+        .enumerate()
+        .map(|(slot, limited)| limited << slot)
+        .sum();
+    format!("{}, {}", kind(chain), LIMITED[state])
+}
+
+/// A difference, on as few poses as show one.
+fn example(path: &Path, told: &Told) -> String {
+    let differs = |path: &Path| ask(path) != telling(path, &expected(path));
+    if !differs(path) {
+        let must = telling(path, &expected(path));
+        return format!("solve_path: {path}\n    told {told}\n    must {must}");
+    }
+    let path = reduced(path, differs);
+    let (told, must) = (ask(&path), telling(&path, &expected(&path)));
+    format!("solve_path: {path}\n    told {told}\n    must {must}")
+}
+
+#[cfg(test)]
+mod tests {
+    use super::*;
+    use crate::calls::GUARD;
+    use crate::random::Random;
+
+    type Fault = fn(&Path, &mut Told);
+
+    /// Compares what an export with a fault would tell, and gives how often that was noticed.
+    fn noticed(fault: Fault) -> u64 {
+        let mut random = Random::new(7);
+        let mut ways = Ways::default();
+        for _ in 0..3000 {
+            let path = Path::drawn(&mut random);
+            let mut told = telling(&path, &expected(&path));
+            fault(&path, &mut told);
+            ways.hold(&path, &told);
+        }
+        ways.differences()
+    }
+
+    const FAULTS: [(&str, Fault); 8] = [
+        ("the pose behind the one at fault", |_, told| {
+            if (23..=26).contains(&told.number) {
+                told.at[1] += 1;
+            }
+        }),
+        ("the other letter", |_, told| {
+            if told.number == 24 {
+                told.letter[1] ^= 1;
+            }
+        }),
+        ("a letter left over", |_, told| {
+            if told.number == 23 {
+                told.letter[1] = b'A';
+            }
+        }),
+        ("joints kept at a refusal of a pose", |path, told| {
+            if told.number == 25 && path.room > 0 {
+                told.numbers[GUARD] = 1;
+            }
+        }),
+        ("joints cleared where there is no room", |path, told| {
+            if told.number == 28 {
+                told.numbers[GUARD..GUARD + path.room].fill(0);
+            }
+        }),
+        ("the rest left as it was", |path, told| {
+            if told.number == 0 && path.room > path.poses.len() / POSE * JOINTS {
+                told.numbers[GUARD + path.room - 1] = 1;
+            }
+        }),
+        ("a last place of the first angle", |path, told| {
+            if told.number == 0 && path.room > 0 {
+                told.numbers[GUARD + 3] ^= 1;
+            }
+        }),
+        ("the cone behind the start", |path, told| {
+            if told.number == 18 && path.start.iter().any(|x| !x.is_finite()) {
+                told.number = 16;
+            }
+        }),
+    ];
+
+    #[test]
+    fn every_fault_is_noticed() {
+        assert_eq!(noticed(|_, _| ()), 0);
+        for (words, fault) in FAULTS {
+            assert!(noticed(fault) > 0, "{words}");
+        }
+    }
+}
