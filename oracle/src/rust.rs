@@ -191,14 +191,6 @@ macro_rules! on_plain_numbers {
                 }
             }
 
-            /// The tip and the axis, as `forward` gives them.
-            pub fn tool_pose(numbers: &[f64]) -> ToolPose {
-                ToolPose {
-                    tip: vector(numbers),
-                    axis: vector(&numbers[3..]),
-                }
-            }
-
             /// The position and the angles of each pose. The start is none or that of one pose.
             pub fn solve_path(
                 setup: &FiveAxisSetup,
@@ -209,11 +201,7 @@ macro_rules! on_plain_numbers {
                 let poses: Vec<ToolPose> = poses.chunks(6).map(tool_pose).collect();
                 let start = (!start.is_empty()).then(|| joint_set(start));
                 let joints = solve(setup, &poses, start, cone).map_err(words)?;
-                let numbers = |set: &Joints| {
-                    let [first, second] = set.angles;
-                    [set.xyz.x(), set.xyz.y(), set.xyz.z(), first, second]
-                };
-                Ok(joints.iter().flat_map(numbers).collect())
+                Ok(joints.into_iter().flat_map(set_numbers).collect())
             }
 
             fn of_frame(frame: Rigid) -> Vec<f64> {

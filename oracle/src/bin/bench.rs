@@ -510,6 +510,9 @@ mod inverses {
                 let sets = rust.inverse(pose, TOOL_LENGTH, HINT);
                 black_box(sets.expect("joint sets"));
             }
+        })
+    }
+}
 
 /// solve_path through the export beside the untouched Rust's, on a finishing path: passes to and fro over a part, the tool tilted
 /// by 10 to 40 degrees. Then on paths of other lengths, for how the cost grows.
