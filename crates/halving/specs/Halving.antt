@@ -1,0 +1,50 @@
+-- Halving, a term of document 01: the first two neighbours of a list that divide get their midpoint between them, and this
+-- repeats until there are none. Over any item, any test `divides` and any midpoint `mid`: what an item is, when two of them
+-- divide and what lies between them is for the caller to say.
+use Prim.Native.Nat.{ℕ, zero, suc}
+use mathlib.Core.Bool.{Bool, true, false}
+use mathlib.Core.Option.{Option, none, some}
+use mathlib.Core.List.{List, [], _∷_}
+use lib.Dec.{leb}
+use lib.ListN.{length}
+
+-- how a halving ends, with the number of items inserted: with a list in which no two neighbours divide, or where one item more
+-- is one too many, or has no space
+pub data Answer (A : Type 0) : Type 0 where
+  Done : ℕ → List A → Answer A
+  TooMany : ℕ → Answer A
+  NoSpace : ℕ → Answer A
+
+-- document 01's numbers for the three
+abbrev pub code : {A : Type 0} → Answer A → ℕ
+code (Done n l) = 0
+code (TooMany n) = 27
+code (NoSpace n) = 28
+
+abbrev pub count : {A : Type 0} → Answer A → ℕ
+count (Done n l) = n
+count (TooMany n) = n
+count (NoSpace n) = n
+
+-- a refused halving hands no item back
+abbrev pub items : {A : Type 0} → Answer A → List A
+items (Done n l) = l
+items (TooMany n) = []
+items (NoSpace n) = []
+
+abbrev pub onto : {A : Type 0} → A → Option (List A) → Option (List A)
+onto x none = none
+onto x (some l) = some (x ∷ l)
+
+module _ {A : Type 0} (divides : A → A → Bool) (mid : A → A → A) where
+  -- one insertion: the first two neighbours that divide get their midpoint between them; none where no two divide
+  unfoldable pub step : List A → Option (List A)
+  step [] = none
+  step (x ∷ []) = none
+  step (x ∷ (y ∷ l)) = elim (divides x y) [ true ↦ some (x ∷ mid x y ∷ y ∷ l) | false ↦ onto x (step (y ∷ l)) ]
+
+  -- step after step until there is none: `n` items have been inserted, `left` more may be, and the list may have `space` items
+  unfoldable pub halve : (space left n : ℕ) → List A → Answer A
+  halve space zero n l = elim (step l) [ none ↦ Done n l | some m ↦ TooMany n ]
+  halve space (suc left) n l =
+      elim (step l) [ none ↦ Done n l | some m ↦ elim (leb (length m) space) [ true ↦ halve space left (suc n) m | false ↦ NoSpace n ] ]
