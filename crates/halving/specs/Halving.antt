@@ -8,18 +8,12 @@ use mathlib.Core.List.{List, [], _∷_}
 use lib.Dec.{leb}
 use lib.ListN.{length}
 
--- how a halving ends, with the number of items inserted: with a list in which no two neighbours divide, or where one item more
--- is one too many, or has no space
+-- how a halving ends, with the number of items inserted: with a list in which no two neighbours divide; where one item more
+-- would be one too many (document 01's 27); or where it would have no space (28)
 pub data Answer (A : Type 0) : Type 0 where
   Done : ℕ → List A → Answer A
   TooMany : ℕ → Answer A
   NoSpace : ℕ → Answer A
-
--- document 01's numbers for the three
-abbrev pub code : {A : Type 0} → Answer A → ℕ
-code (Done n l) = 0
-code (TooMany n) = 27
-code (NoSpace n) = 28
 
 abbrev pub count : {A : Type 0} → Answer A → ℕ
 count (Done n l) = n
