@@ -1,3 +1,5 @@
 pub mod Step
 pub mod Steps
+pub mod Ends
+pub mod Pairs
 pub mod Machine

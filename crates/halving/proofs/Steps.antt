@@ -2,6 +2,7 @@
 -- in it in order, each item put in is the midpoint of two that divide, and there are as many of these as steps.
 use Prim.Native.Nat.{ℕ, zero, suc, _+_, _-_, _≤_}
 use native.Mathlib.Nat.{zero-add, suc-add}
+use native.Mathlib.Numerals.{add-one}
 use native.Mathlib.Omega.{arith}
 use mathlib.Core.Path.{_≡_, refl, sym, ap, _∙_, subst}
 use mathlib.Core.Logic.{_⊎_, inl, inr}
@@ -18,7 +19,7 @@ use Rattle.halving.proofs.Step.{some-none, none-cases, some-cases, Some
 some-one : {A : Type 0} {a b : A} → some a ≡ some b → a ≡ b
 some-one e = cc
 
-sub-behind : {A : Type 0} (p : List A) {q r : List A} → Sublistᴰ q r → Sublistᴰ (p ++ q) (p ++ r)
+pub sub-behind : {A : Type 0} (p : List A) {q r : List A} → Sublistᴰ q r → Sublistᴰ (p ++ q) (p ++ r)
 sub-behind [] s = s
 sub-behind (a ∷ p) s = Sublistᴰ·cons-cons refl (sub-behind p s)
 
@@ -125,6 +126,16 @@ module _ {A : Type 0} (divides : A → A → Bool) (mid : A → A → A) where
     where
       go : Steps l (suc (a + b)) r → ((u : List A) → Steps u (a + b) r → (m : List A) × (Steps u a m × Steps m b r)) → (m : List A) × (Steps l (suc a) m × Steps m b r)
       go (more h t) ih = let (m, q) = ih _ t in (m, (more h (q .0), q .1))
+
+  -- one step more at the end, and the last step taken off
+  pub steps-more : {l r m : List A} {j : ℕ} → Steps l j r → step divides mid r ≡ some m → Steps l (suc j) m
+  steps-more {l} {m = m} {j = j} s e = subst (λ (i : ℕ). Steps l i m) (add-one j) (steps-then s (more e here))
+
+  pub steps-last : (j : ℕ) {l m : List A} → Steps l (suc j) m → (r : List A) × (Steps l j r × (step divides mid r ≡ some m))
+  steps-last j {l} {m} s = go (steps-apart j 1 (subst (λ (i : ℕ). Steps l i m) (sym (add-one j)) s))
+    where
+      go : (r : List A) × (Steps l j r × Steps r 1 m) → (r : List A) × (Steps l j r × (step divides mid r ≡ some m))
+      go (r, (t, more e here)) = (r, (t, e))
 
   pub needs-less : {i j : ℕ} {l : List A} → i ≤ j → Needs j l → Needs i l
   needs-less {i} {j} {l} h (r, s) =
