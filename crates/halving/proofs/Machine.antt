@@ -3,7 +3,7 @@
 -- the first that waits, and places that, or puts their midpoint before it. Here are the machine's invariant, and a law each for
 -- its start, each way through a turn, and its end. `had` items were inserted before: a halving that goes on from there is as
 -- good a start as any.
-use Prim.Native.Nat.{ℕ, zero, suc, _+_, _-_, _*_, _≤_, _<_}
+use Prim.Native.Nat.{ℕ, suc, _+_, _-_, _*_, _≤_, _<_}
 use native.Mathlib.Numerals.{add-one}
 use native.Mathlib.Omega.{arith}
 use mathlib.Core.Path.{_≡_, refl, sym, ap, _∙_, subst}
@@ -20,6 +20,8 @@ use Rattle.halving.proofs.Step.{past-divides, past-keeps, step-length, 
 abbrev pub whole : {A : Type 0} → List A → ℕ → ℕ → List A
 whole o k s = take k o ++ drop s o
 
+-- `had` items were inserted before the machine began with g, and now n are. No two that are placed divide, and what the halving
+-- of g comes to is what it comes to from here
 pub record State {A : Type 0} (divides : A → A → Bool) (mid : A → A → A) (space limit : ℕ) (g : List A) (had : ℕ) (o : List A) (k s n : ℕ) : Type 0 where
   pub as-long : length o ≡ space
   pub some-placed : 0 < k
@@ -213,6 +215,9 @@ placing a space s h = omega arith
 at-most : (k w had c n : ℕ) → 0 < k → k + w + had ≡ c + n → had ≤ n → (k - 1) + (n - had) ≤ (c - 1) + 2 * (n - had)
 at-most k w had c n p e h = omega arith
 
+below : (k w had c n : ℕ) → 0 < k → 0 < w → k + w + had ≡ c + n → had ≤ n → (k - 1) + (n - had) < (c - 1) + 2 * (n - had)
+below k w had c n p q e h = omega arith
+
 exactly : (k had c n : ℕ) → 0 < k → k + had ≡ c + n → had ≤ n → 0 < c → (k - 1) + (n - had) ≡ (c - 1) + 2 * (n - had)
 exactly k had c n p e h q = omega arith
 
@@ -230,10 +235,13 @@ module _ {A : Type 0} {divides : A → A → Bool} {mid : A → A → A} {space 
   pub falls-placing : s < space → to-do space limit (s + 1) n < to-do space limit s n
   falls-placing h = let e = placing-is-one h in omega arith
 
-  -- A turn raises k or n by one, so (k - 1) + (n - had) counts the tests: never more than one for each two given neighbours and
-  -- two for each insertion, and exactly as many at the end.
+  -- A turn raises k or n by one, so (k - 1) + (n - had) counts the turns, each with one test: never more than one for each two
+  -- given neighbours and two for each insertion, the test before a refusal among them; and exactly as many where all is placed.
   pub tests-at-most : (k - 1) + (n - had) ≤ (length g - 1) + 2 * (n - had)
   tests-at-most = at-most k (space - s) had (length g) n (σ .some-placed) (σ .all) (σ .since)
+
+  pub tests-below : s < space → (k - 1) + (n - had) < (length g - 1) + 2 * (n - had)
+  tests-below h = below k (space - s) had (length g) n (σ .some-placed) (omega arith) (σ .all) (σ .since)
 
   pub tests-exactly : space ≤ s → 0 < length g → (k - 1) + (n - had) ≡ (length g - 1) + 2 * (n - had)
   tests-exactly h q = exactly k had (length g) n (σ .some-placed) (omega arith) (σ .since) q
