@@ -180,7 +180,7 @@ module _ {A : Type 0} (divides : A → A → Bool) (mid : A → A → A) (space 
     pub few : j ≤ left
     pub fits : length r ≤ space
 
-  pub done-of : {left n c : ℕ} {l r : List A} {a : Answer A} → Ended left n l a → a ≡ Done c r → length l ≤ space → (n ≤ c) × Result left l (c - n) r
+  done-of : {left n c : ℕ} {l r : List A} {a : Answer A} → Ended left n l a → a ≡ Done c r → length l ≤ space → (n ≤ c) × Result left l (c - n) r
   done-of {left} {n} {c} {l} {r} (done {j = j} {r = q} s e h f) w b =
       let v : n + j ≡ c = done-number w in
       let z : j ≡ c - n = omega arith in
@@ -199,8 +199,12 @@ module _ {A : Type 0} (divides : A → A → Bool) (mid : A → A → A) (space 
   done-of (many s e f) w b = done-many (sym w)
   done-of (full s e h f) w b = done-full (sym w)
 
-  pub result : (left n : ℕ) {c : ℕ} {l r : List A} → length l ≤ space → halve divides mid space left n l ≡ Done c r → (n ≤ c) × Result left l (c - n) r
-  result left n {l = l} b w = done-of (halve-ended left n l) w b
+  -- of a halving that goes on with n inserted before, and of one from the start
+  pub result-on : (left n c : ℕ) (l r : List A) → length l ≤ space → halve divides mid space left n l ≡ Done c r → (n ≤ c) × Result left l (c - n) r
+  result-on left n c l r b w = done-of (halve-ended left n l) w b
+
+  pub result : (limit c : ℕ) (g r : List A) → length g ≤ space → halve divides mid space limit 0 g ≡ Done c r → Result limit g c r
+  result limit c g r b w = subst (λ (j : ℕ). Result limit g j r) (sub-zero c) (result-on limit 0 c g r b w .1)
 
   -- a result halved again is itself, whatever the space and the limit then
   ended-of : {left n c : ℕ} {l r : List A} {a : Answer A} → Ended left n l a → a ≡ Done c r → step divides mid r ≡ none

@@ -8,7 +8,7 @@ use mathlib.Core.List.{List, [], _∷_, _++_, Sublistᴰ, Sublistᴰ·slnil, Sub
 use lib.ListN.{length}
 use Rattle.halving.specs.Halving.{halve, Done}
 use Rattle.halving.proofs.Step.{true-false}
-use Rattle.halving.proofs.Ends.{ends-done, result}
+use Rattle.halving.proofs.Ends.{ends-done, result-on}
 use Rattle.halving.proofs.Pairs.{Between, b-keeps, b-divides, Inserts, i-nil, i-one, i-more, inserts-steps, steps-inserts}
 
 sub-length : {A : Type 0} {l r : List A} → Sublistᴰ l r → length l ≤ length r
@@ -75,7 +75,7 @@ module _ {A : Type 0} (strict loose : A → A → Bool) (mid : A → A → A) (l
 
   pub looser-done : (space left n c : ℕ) (l r : List A) → length l ≤ space → halve strict mid space left n l ≡ Done c r → Fewer space left n l c r
   looser-done space left n c l r b w =
-      let (a, q) = result strict mid space left n b w in
+      let (a, q) = result-on strict mid space left n c l r b w in
       let (i, t) = steps-inserts strict mid (q .steps) (q .ended) in
       let z = loosened (t .0) in
       let (s, e) = inserts-steps loose mid (z .inserts) in
