@@ -208,10 +208,11 @@ impl Drawing {
         let [first, second] = self.chain.rotaries.map(|rotary| rotary.axis);
         let axis = random.one_of(&[self.chain.spindle, first, second]);
         let axis = scaled(axis, signed(1.0, random));
+        let tiny = random.one_of(&[1e-200, 1e-160, 1e-150, 1e-100]);
         match random.below(4) {
             0 => axis.map(|x| moved(x, 1, random)),
             1 => sum(unit(axis), scaled(direction(random), push(random).abs())),
-            2 => sum(unit(axis), scaled(direction(random), 1e-200)),
+            2 => sum(unit(axis), scaled(direction(random), tiny)),
             _ => axis,
         }
     }

@@ -1,7 +1,7 @@
 //! Chains for paths: machines of every type, and above all those on which a path meets a delicate place. One rotary on the
 //! spindle, exactly or nearly; rotaries that are parallel or nearly so; slanted ones, whose reach has a border.
 
-use crate::angles::{signed, within};
+use crate::angles::{moved, signed, within};
 use crate::chains::{Chain, direction, slot, sound};
 use crate::floats::power_of_two;
 use crate::lean::{Vector, cross, dot, rotated, scaled, sum, unit};
@@ -15,7 +15,8 @@ pub fn machine(random: &mut Random) -> Chain {
         2..=6 => square(&mut chain, random),
         7 | 8 => slanted(&mut chain, random),
         9 => nearly_parallel(&mut chain, random),
-        10..=12 => nearly_square(&mut chain, random),
+        10 | 11 => nearly_square(&mut chain, random),
+        12 => at_tolerance(&mut chain, random),
         13 => third_axis(&mut chain, random),
         _ => alone(&mut chain, random),
     }
@@ -117,6 +118,28 @@ fn nearly_square(chain: &mut Chain, random: &mut Random) {
         let exact = [0.0, off, 0.0];
         let most = random.one_of(&[nudge, nudge, exact, [0.0; 3]]);
         rotary.axis = sum(rotary.axis, most);
+    }
+}
+
+/// Off by just as much as that, or a place more or less.
+fn at_tolerance(chain: &mut Chain, random: &mut Random) {
+    square(chain, random);
+    let spindle = chain.spindle;
+    for rotary in &mut chain.rotaries {
+        let on_spindle = dot(rotary.axis, spindle) != 0.0;
+        let cosine = match (on_spindle, random.below(2)) {
+            (_, 0) => continue,
+            (true, _) => 1.0 - 1e-6,
+            (false, _) => 1e-3,
+        };
+        let cosine = moved(cosine, 1, random);
+        let across = if on_spindle {
+            square_to(spindle)
+        } else {
+            rotary.axis
+        };
+        let sine = (1.0 - cosine * cosine).sqrt();
+        rotary.axis = sum(scaled(spindle, cosine), scaled(across, sine));
     }
 }
 

@@ -47,6 +47,9 @@ const ANSWERED: [&str; 24] = [
     "29",
 ];
 
+/// Long paths that must be served, each once at least.
+const LONG: [&str; 2] = ["served, 5000 poses", "served, 100000 poses"];
+
 /// How a pose is solved: outside the cone, on every machine the first and on those of two rotaries the next, then inside it.
 const EXACT: [&str; 5] = [
     "exact: one solution",
@@ -118,9 +121,8 @@ impl Ways {
     fn look(&mut self, path: &Path, joints: &[f64]) {
         let chain = reading::chain(&path.chain).expect("a chain that is served");
         self.count(machine(&chain));
-        if path.poses.len() / POSE >= 5000 {
-            self.count(format!("served, {} poses", path.poses.len() / POSE));
-        }
+        let long = format!("served, {} poses", path.poses.len() / POSE);
+        self.meet(&long, LONG.contains(&long.as_str()));
         let rust = ported::setup(&chain).kinematics;
         let mut previous = match path.start[..] {
             [_, _, _, first, second] => [first, second],
@@ -183,31 +185,25 @@ impl Ways {
         self.differences
     }
 
-    pub fn met(&self, what: &str) -> u64 {
+    fn met(&self, what: &str) -> u64 {
         self.met.get(what).copied().unwrap_or(0)
     }
 
     /// Status 1 where there is a difference, or where something was met less often than `fewest` times.
     pub fn print(&self, fewest: u64) -> ExitCode {
         let mut rare = Vec::new();
-        for what in all() {
+        let long = LONG.map(|what| (what.to_owned(), 1));
+        for (what, fewest) in all().into_iter().map(|what| (what, fewest)).chain(long) {
             let count = self.met(&what);
             println!("{what:48} {count:12}");
             if count < fewest {
-                rare.push(what);
+                rare.push(format!("met less often than {fewest} times: {what}"));
             }
-        }
-        for (what, count) in self
-            .met
-            .iter()
-            .filter(|(what, _)| what.starts_with("served, "))
-        {
-            println!("{what:48} {count:12}");
         }
         println!("{} poses of served paths", self.poses);
         self.from_libm.print();
         for what in &rare {
-            println!("met less often than {fewest} times: {what}");
+            println!("{what}");
         }
         for example in self.examples.iter().take(SHOWN) {
             println!("{example}");
