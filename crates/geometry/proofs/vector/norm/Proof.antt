@@ -6,12 +6,12 @@ use Rattle.geometry.proofs.vector.norm.Tie as tie
 dot-requires : tie.Need-dot-requires
 dot-requires c κs = search needs
 
-root-requires : tie.Need-root-requires
-root-requires c κs = search needs
+quick-root-requires : tie.Need-quick-root-requires
+quick-root-requires c κs = search needs
 
 returns : tie.Need-returns
 unfolding norm
-returns c = rw (c .root .ensures, c .before .dot .ensures)
+returns c = rw (c .quick-root .ensures, c .before .dot .ensures)
 
 pub norm-spec : {M : Type 1} → statement M
-norm-spec = tie.close (tie.spec dot-requires root-requires returns)
+norm-spec = tie.close (tie.spec dot-requires quick-root-requires returns)
