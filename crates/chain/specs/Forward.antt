@@ -10,7 +10,7 @@ use Rattle.geometry.specs.declared.Turn.{Turn}
 use Rattle.geometry.specs.declared.Direction.{Direction}
 use Rattle.geometry.specs.declared.Direction.the-variants.{Unit, Nowhere}
 use Rattle.geometry.specs.Vector.{add, sub, scale}
-use Rattle.geometry.specs.Turn.{turnOf, rotateVector, rotatePoint}
+use Rattle.geometry.specs.Turn.{turnOf, turnedBack, rotateVector, rotatePoint}
 use Rattle.geometry.specs.Direction.{unitDirection, unitOr}
 use Rattle.refusal.specs.Numbers.{refusal, toolLength, notFinite, tooLarge, spindleZero}
 use Rattle.chain.specs.declared.Mount.{Mount}
@@ -50,6 +50,15 @@ swingForth Absent angle = still
 
 unfoldable pub tablesForth : Prepared → Float → Float → Turns
 tablesForth p a0 a1 = record { first = swingForth (p .first .mount) a0; second = swingForth (p .second .mount) a1 }
+
+-- the same, from the turns by which forward moves the rotaries: a table's is the turn back
+abbrev pub swingFrom : Mount → Turn → Float → Turn
+swingFrom Table back angle = turnedBack back angle
+swingFrom Head back angle = still
+swingFrom Absent back angle = still
+
+unfoldable pub forthFrom : Prepared → Turns → Float → Float → Turns
+forthFrom p back a0 a1 = record { first = swingFrom (p .first .mount) (back .first) a0; second = swingFrom (p .second .mount) (back .second) a1 }
 
 -- ---- one rotary: a head moves what is on the tool side, a table what is on the part side
 abbrev pub byHead : {A : Type 0} → Mount → A → A → A

@@ -278,3 +278,33 @@ pub fn forward_from(bytes: &[u8], j: Joints, tool_length: f64) -> Posed
     let turns = turns_of(p, j.a0, j.a1);
     posed(reach(p, turns, j.xyz, tool_length))
 }
+
+// How the position turns a rotary, from the turn by which forward moves it.
+fn swing_from(mount: Mount, back: Turn, angle: f64) -> Turn
+    ensures { λ r. ⌜ r ≡ S.swingFrom mount back angle ⌝ }
+{
+    match mount {
+        Mount::Table => back.turned_back(angle),
+        Mount::Head => Turn {
+            sine: 0.0,
+            cosine: 1.0,
+        },
+        Mount::Absent => Turn {
+            sine: 0.0,
+            cosine: 1.0,
+        },
+    }
+}
+
+// `tables_forth` from `turns_of` at the same angles, with no sine or cosine made anew.
+pub fn forth_from(p: Prepared, back: Turns, a0: f64, a1: f64) -> Turns
+    ensures { λ r. ⌜ r ≡ S.forthFrom p back a0 a1 ⌝ }
+{
+    let outer = p.first;
+    let inner = p.second;
+    let outer_mount = outer.mount;
+    let inner_mount = inner.mount;
+    let first = swing_from(outer_mount, back.first, a0);
+    let second = swing_from(inner_mount, back.second, a1);
+    Turns { first, second }
+}

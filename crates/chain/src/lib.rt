@@ -28,6 +28,7 @@ pub use checks::joints_within;
 pub use checks::pivots_within;
 pub use checks::then;
 pub use checks::within;
+pub use forward_map::forth_from;
 pub use forward_map::forward;
 pub use forward_map::forward_core;
 pub use forward_map::forward_from;
@@ -120,7 +121,7 @@ pub struct Prepared {
     pub spindle: Vec3,
 }
 
-// For each rotary its turn: by which `forward` moves it, a head forth, a table back (turns_of); or a table forth, as the position needs it (tables_forth).
+// For each rotary its turn: by which `forward` moves it, a head forth, a table back (turns_of); or a table forth, as the position needs it (tables_forth, forth_from).
 pub struct Turns {
     pub first: Turn,
     pub second: Turn,

@@ -1,5 +1,6 @@
 -- Turning: Rodrigues' formula, (v cos + (axis × v) sin) + axis ((axis · v) (1 - cos)), for a unit axis.
-use lib.Ieee.{Float}
+use mathlib.Core.Bool.{not, cond}
+use lib.Ieee.{Float, binary64, ofBits, neg, le}
 use Rattle.float.specs.Helpers.{nought, one, toRadians}
 use Rattle.trig.specs.Waves.{sineOf, cosineOf, paired}
 use Rattle.trig.specs.declared.PairAnswer.{PairAnswer}
@@ -23,3 +24,12 @@ rotateVector axis v turn =
 
 unfoldable pub rotatePoint : Vec3 → Vec3 → Vec3 → Turn → Vec3
 rotatePoint axis pivot point turn = add pivot (rotateVector axis (sub point pivot) turn)
+
+-- the turn by that many degrees, from the turn by as many back: within 45,000 degrees its sine is negated
+abbrev pub farthestTurned : Float
+farthestTurned = ofBits binary64 0x40e5_f900_0000_0000
+
+unfoldable pub turnedBack : Turn → Float → Turn
+turnedBack t degrees =
+    cond (not (le (neg farthestTurned) degrees)) (turnOf degrees)
+    (cond (not (le degrees farthestTurned)) (turnOf degrees) (record { sine = neg (t .sine); cosine = t .cosine }))

@@ -1,4 +1,4 @@
-// Turning by Rodrigues' formula, about a unit axis, by the sine and cosine of the angle. A turn comes from degrees by `Turn::of` alone; turning back is the turn of the negated degrees.
+// Turning by Rodrigues' formula, about a unit axis, by the sine and cosine of the angle. A turn comes from degrees by `Turn::of`; turning back is the turn of the negated degrees, and each gives the other by its sine negated.
 ghost use mathlib.Core.Path.{_≡_};
 ghost use Rattle.geometry.specs.Turn as S;
 use crate::Turn;
@@ -24,6 +24,22 @@ impl Turn {
         Turn {
             sine: p.sine,
             cosine: p.cosine,
+        }
+    }
+
+    // By that many degrees, from the turn by as many back.
+    pub fn turned_back(self, degrees: f64) -> Turn
+        ensures { λ r. ⌜ r ≡ S.turnedBack self degrees ⌝ }
+    {
+        if !(-45000.0 <= degrees) {
+            return Turn::of(degrees);
+        }
+        if !(degrees <= 45000.0) {
+            return Turn::of(degrees);
+        }
+        Turn {
+            sine: -self.sine,
+            cosine: self.cosine,
         }
     }
 }

@@ -19,8 +19,9 @@ use Rattle.chain.specs.declared.Joints.{Joints}
 use Rattle.chain.specs.declared.Kinematics.{Kinematics}
 use Rattle.chain.specs.declared.Prepared.{Prepared}
 use Rattle.chain.specs.declared.ToolPose.{ToolPose}
+use Rattle.chain.specs.declared.Turns.{Turns}
 use Rattle.chain.specs.Check.{demand, firstRefusal, chainCheck, hasDirection, within, allWithin, pivotsWithin, longest, mostTurned}
-use Rattle.chain.specs.Forward.{forwardCore, turnsOf, tablesForth, position, lengthGood}
+use Rattle.chain.specs.Forward.{forwardCore, turnsOf, tablesForth, forthFrom, position, lengthGood}
 use Rattle.chain.specs.Prepared.{prepared}
 use Rattle.inverse.specs.Subproblem.{shortest}
 use Rattle.inverse.specs.Orientation.{orientationAngles}
@@ -43,6 +44,13 @@ misses axis target = Ieee.lt shortest (norm (sub axis target))
 
 unfoldable pub jointsAt : Prepared → Angles → Vec3 → Vec3 → Joints
 jointsAt p angles tip tip0 = record { xyz = position p (tablesForth p (angles .a0) (angles .a1)) tip tip0; a0 = angles .a0; a1 = angles .a1 }
+
+-- the same, from the turns of the rotaries at these angles
+unfoldable pub poseFrom : Prepared → Turns → Float → ToolPose
+poseFrom p turns tool = forwardCore p turns origin tool
+
+unfoldable pub jointsFrom : Prepared → Turns → Angles → Vec3 → Vec3 → Joints
+jointsFrom p turns angles tip tip0 = record { xyz = position p (forthFrom p turns (angles .a0) (angles .a1)) tip tip0; a0 = angles .a0; a1 = angles .a1 }
 
 -- ---- the pairs that reach the target, in order
 unfoldable pub reached : Prepared → Vec3 → Vec3 → Float → List Angles → List Joints

@@ -20,17 +20,17 @@ use chain::Joints;
 use chain::Kinematics;
 use chain::Prepared;
 use chain::ToolPose;
+use chain::Turns;
 use chain::demand;
 use chain::then;
 use chain::within;
 use geometry::Direction;
 use geometry::Vec3;
 
-// The pose at position zero.
-pub fn pose_at(p: Prepared, angles: Angles, tool_length: f64) -> ToolPose
-    ensures { λ r. ⌜ r ≡ S.poseAt p angles «tool_length» ⌝ }
+// The pose at position zero, by the turns of the rotaries.
+pub fn pose_from(p: Prepared, turns: Turns, tool_length: f64) -> ToolPose
+    ensures { λ r. ⌜ r ≡ S.poseFrom p turns «tool_length» ⌝ }
 {
-    let turns = chain::turns_of(p, angles.a0, angles.a1);
     let origin = Vec3 {
         x: 0.0,
         y: 0.0,
@@ -46,11 +46,11 @@ pub fn misses(axis: Vec3, target: Vec3) -> bool
     1e-9 < geometry::norm(geometry::sub(axis, target))
 }
 
-// The angles with the position that puts the tip from `tip0` on `tip`.
-pub fn joints_at(p: Prepared, angles: Angles, tip: Vec3, tip0: Vec3) -> Joints
-    ensures { λ r. ⌜ r ≡ S.jointsAt p angles tip tip0 ⌝ }
+// The angles with the position that puts the tip from `tip0` on `tip`. `turns` are those of the rotaries at these angles.
+pub fn joints_from(p: Prepared, turns: Turns, angles: Angles, tip: Vec3, tip0: Vec3) -> Joints
+    ensures { λ r. ⌜ r ≡ S.jointsFrom p turns angles tip tip0 ⌝ }
 {
-    let forth = chain::tables_forth(p, angles.a0, angles.a1);
+    let forth = chain::forth_from(p, turns, angles.a0, angles.a1);
     let xyz = chain::position(p, forth, tip, tip0);
     Joints {
         xyz,
@@ -71,11 +71,12 @@ fn take_in(
     requires { ⌜ s .count < 50 ⌝ }
     ensures { λ r. ⌜ (r ≡ S.takenIn p target tip «tool_length» s angles) × (r .count ≤ s .count + 1) ⌝ }
 {
-    let pose0 = pose_at(p, angles, tool_length);
+    let turns = chain::turns_of(p, angles.a0, angles.a1);
+    let pose0 = pose_from(p, turns, tool_length);
     if misses(pose0.axis, target) {
         return s;
     }
-    insert(s, joints_at(p, angles, tip, pose0.tip))
+    insert(s, joints_from(p, turns, angles, tip, pose0.tip))
 }
 
 fn all_solutions(p: Prepared, target: Vec3, tip: Vec3, tool_length: f64, pairs: Pairs) -> Solutions

@@ -22,11 +22,12 @@ use inverse::RawAngles;
 fn reached_by(p: Prepared, target: Vec3, tip: Vec3, angles: Angles) -> Candidate
     ensures { λ r. ⌜ r ≡ S.reachedBy p target tip angles ⌝ }
 {
-    let pose0 = inverse::pose_at(p, angles, 0.0);
+    let turns = chain::turns_of(p, angles.a0, angles.a1);
+    let pose0 = inverse::pose_from(p, turns, 0.0);
     if inverse::misses(pose0.axis, target) {
         return Candidate::Nothing;
     }
-    Candidate::At(inverse::joints_at(p, angles, tip, pose0.tip))
+    Candidate::At(inverse::joints_from(p, turns, angles, tip, pose0.tip))
 }
 
 fn candidate(p: Prepared, target: Vec3, tip: Vec3, raw: RawAngles) -> Candidate

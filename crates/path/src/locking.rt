@@ -175,8 +175,9 @@ fn locked_angles(
 fn placed_at(p: Prepared, tip: Vec3, angles: Angles) -> PoseAnswer
     ensures { λ r. ⌜ r ≡ S.placedAt p tip angles ⌝ }
 {
-    let pose0 = inverse::pose_at(p, angles, 0.0);
-    let j = inverse::joints_at(p, angles, tip, pose0.tip);
+    let turns = chain::turns_of(p, angles.a0, angles.a1);
+    let pose0 = inverse::pose_from(p, turns, 0.0);
+    let j = inverse::joints_from(p, turns, angles, tip, pose0.tip);
     if geometry::all_finite(j.xyz) {
         return PoseAnswer::At(j);
     }

@@ -1,24 +1,46 @@
 use borrow.Author.Needs.{needs}
+use lib.Dec.{T}
+use lib.Ieee.{binary64, fits}
+use Rattle.float.specs.Helpers.{nought}
+use Rattle.inverse.specs.Inverse.{poseAt}
+use Rattle.inverse.proofs.FromTurns.{pose-from, joints-from}
 use Rattle.path.specs.Exact.{reachedBy}
 use Rattle.path.proofs.exact.reached_by.Statement.{statement}
 use Rattle.path.proofs.exact.reached_by.Tie as tie
 
-pose-at-requires : tie.Need-pose-at-requires
-pose-at-requires c κs = search needs
+outer : (c : tie.Start) → T (fits binary64 (c .args .angles .a0))
+outer c = search needs
+
+inner : (c : tie.Start) → T (fits binary64 (c .args .angles .a1))
+inner c = search needs
+
+turns-of-requires : tie.Need-turns-of-requires
+turns-of-requires c κs = search needs
+
+pose-from-requires : tie.Need-pose-from-requires
+pose-from-requires c κs = search needs
 
 misses-requires : tie.Need-misses-requires
 misses-requires c κs = search needs
 
 returns : tie.Need-returns
 unfolding reachedBy
-returns c = rw (rw (c .before .misses .ensures, c .before .before .pose-at .ensures) at (c .if1 .taken))
+returns c = rw (rw (c .before .misses .ensures, c .before .before .pose-from .ensures, c .before .before .before .turns-of .ensures, pose-from (c .before .before .before .before .args .p) (c .before .before .before .before .args .angles) nought) at (c .if1 .taken))
 
-joints-at-requires : tie.Need-joints-at-requires
-joints-at-requires c κs = search needs
+joints-from-requires : tie.Need-joints-from-requires
+joints-from-requires c κs = search needs
 
 returns-2 : tie.Need-returns-2
 unfolding reachedBy
-returns-2 c = rw (c .joints-at .ensures, c .before .before .before .pose-at .ensures, rw (c .before .before .misses .ensures, c .before .before .before .pose-at .ensures) at (c .before .if1 .left))
+returns-2 c =
+    rw (
+      c .joints-from .ensures,
+      c .before .before .before .pose-from .ensures,
+      c .before .before .before .before .turns-of .ensures,
+      pose-from (c .before .before .before .before .before .args .p) (c .before .before .before .before .before .args .angles) nought,
+      joints-from (c .before .before .before .before .before .args .p) (c .before .before .before .before .before .args .angles) (c .before .before .before .before .before .args .tip) (poseAt (c .before .before .before .before .before .args .p) (c .before .before .before .before .before .args .angles) nought .tip) (outer (c .before .before .before .before .before)) (inner (c .before .before .before .before .before)),
+      rw (c .before .before .misses .ensures, c .before .before .before .pose-from .ensures, c .before .before .before .before .turns-of .ensures, pose-from (c .before .before .before .before .before .args .p) (c .before .before .before .before .before .args .angles) nought) at (c .before .if1 .left),
+    )
 
 pub reached-by-spec : {M : Type 1} → statement M
-reached-by-spec = tie.close (tie.spec pose-at-requires misses-requires returns joints-at-requires returns-2)
+reached-by-spec = tie.close (tie.spec turns-of-requires pose-from-requires misses-requires returns joints-from-requires returns-2)
