@@ -1,0 +1,2 @@
+-- `Testing`: the tolerance test, the midpoint, and when two neighbours are divided.
+pub mod Testing
