@@ -1,0 +1,2 @@
+pub mod PriceGap
+pub mod PriceSound
