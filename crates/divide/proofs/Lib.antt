@@ -1,2 +1,3 @@
 pub mod PriceGap
 pub mod PriceSound
+pub mod Price

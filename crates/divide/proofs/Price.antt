@@ -1,0 +1,110 @@
+-- Demand 3 holds of document 01's halving, for every list of poses with solved joints: `priced`.
+use Prim.Native.Nat.{ℕ, zero, suc, _+_, _-_, _≤_, _<_}
+use native.Mathlib.Nat.{zero-add}
+use mathlib.Core.Path.{_≡_, refl, sym, ap, _∙_}
+use mathlib.Core.Logic.{_⊎_, inl, inr}
+use mathlib.Core.Bool.{Bool, true, false, not, _&&_, _||_, true≢false}
+use mathlib.Core.List.{List, _∷_, _++_, List·Memᴰ}
+use lib.ListN.{length}
+use Rattle.chain.specs.declared.Joints.{Joints}
+use Rattle.chain.specs.declared.Kinematics.{Kinematics}
+use Rattle.chain.specs.declared.Prepared.{Prepared}
+use Rattle.chain.proofs.ReadyLaws.{both}
+use Rattle.halving.specs.Halving.{halve, Done}
+use Rattle.halving.proofs.Steps.{Steps, here, more, step-division, steps-all}
+use Rattle.halving.proofs.Ends as Ends
+use Rattle.divide.specs.declared.Item.{Item}
+use Rattle.divide.specs.declared.Tolerances.{Tolerances}
+use Rattle.divide.specs.Testing.{jointsUnchanged, lerpJoints, midpoint, segmentWithin, nearAnEnd, divides}
+use Rattle.divide.specs.Price.{AllClose, Insertions, no-more, one-more, Divided, Price}
+use Rattle.divide.proofs.PriceGap.{unchanged-close}
+use Rattle.divide.proofs.PriceSound.{Sound, sound-mid}
+
+-- ---- the rule, taken apart
+denied : (b : Bool) → not b ≡ true → b ≡ false
+denied true h = absurd (true≢false (sym h))
+denied false h = refl
+
+undivided : (w n : Bool) → (not w && not n) ≡ false → w ≡ false → n ≡ true
+undivided true n h e = absurd (true≢false e)
+undivided false true h e = refl
+undivided false false h e = absurd (true≢false h)
+
+either : (a b : Bool) → (a || b) ≡ true → (a ≡ true) ⊎ (b ≡ true)
+either true b h = inl refl
+either false b h = inr h
+
+module _ (p : Prepared) (tol : Tolerances) where
+  -- two that are divided fail the tolerance test
+  pub divided-fails : (x y : Item) → divides p tol x y ≡ true → segmentWithin p tol x y ≡ false
+  unfolding divides
+  divided-fails x y h =
+      denied (segmentWithin p tol x y) (both (not (segmentWithin p tol x y)) (not (nearAnEnd x y (midpoint p x y))) h .0)
+
+  abbrev CloseToOne : Item → Item → Type 0
+  CloseToOne x y = AllClose (midpoint p x y .joints) (x .joints) ⊎ AllClose (midpoint p x y .joints) (y .joints)
+
+  near-close : (x y : Item) → nearAnEnd x y (midpoint p x y) ≡ true → CloseToOne x y
+  unfolding nearAnEnd
+  near-close x y h = go (either (jointsUnchanged m (x .joints)) (jointsUnchanged m (y .joints)) h)
+    where
+      m : Joints
+      m = midpoint p x y .joints
+
+      go : (jointsUnchanged m (x .joints) ≡ true) ⊎ (jointsUnchanged m (y .joints) ≡ true) → CloseToOne x y
+      go (inl e) = inl (unchanged-close m (x .joints) e)
+      go (inr e) = inr (unchanged-close m (y .joints) e)
+
+  -- two that fail it and are not divided
+  kept-close : (x y : Item) → divides p tol x y ≡ false → segmentWithin p tol x y ≡ false → CloseToOne x y
+  unfolding divides
+  kept-close x y h e = near-close x y (undivided (segmentWithin p tol x y) (nearAnEnd x y (midpoint p x y)) h e)
+
+  insertions : {l r : List Item} {n : ℕ} → Steps (divides p tol) (midpoint p) l n r → Insertions p tol l n r
+  insertions here = no-more
+  insertions (more {l = l} {m = m} h s) =
+      let d = step-division (divides p tol) (midpoint p) l m h in
+      one-more
+      (record {
+        front = d .front;
+        left = d .left;
+        right = d .right;
+        back = d .back;
+        was = d .was;
+        is = d .is;
+        fails = divided-fails (d .left) (d .right) (d .failed);
+      })
+      (insertions s)
+
+  module _ (k : Kinematics) (space : ℕ) (g : List Item) (room : length g ≤ space) (given : (i : Item) → List·Memᴰ i g → Sound k (i .joints)) where
+    mid-sound : (x y : Item) → Sound k (x .joints) → Sound k (y .joints) → Sound k (midpoint p x y .joints)
+    unfolding midpoint
+    mid-sound x y a b = sound-mid k (x .joints) (y .joints) a b
+
+    -- of every joint set of the result
+    pub all-sound : {r : List Item} {n : ℕ} → Steps (divides p tol) (midpoint p) g n r → (i : Item) → List·Memᴰ i r → Sound k (i .joints)
+    all-sound s = steps-all (divides p tol) (midpoint p) (λ i. Sound k (i .joints)) mid-sound s given
+
+    pub divided : (n : ℕ) (r : List Item) → halve (divides p tol) (midpoint p) space 10000 0 g ≡ Done n r → Divided k p tol g n r
+    divided n r e =
+        let d = Ends.result (divides p tol) (midpoint p) space 10000 n g r room e in
+        record {
+          halved = d .steps;
+          ended = d .ended;
+          in-order = d .in-order;
+          limits = λ i m. all-sound (d .steps) i m .served .limits;
+          inserted = insertions (d .steps);
+          close = λ front x y back w f. kept-close x y (d .kept front x y back w) f;
+          counted = d .counted;
+        }
+
+    pub priced : Price k p tol space g (halve (divides p tol) (midpoint p) space 10000 0 g)
+    priced = record {
+      divided = divided;
+      many = λ h. Ends.many-exactly (divides p tol) (midpoint p) space 10000 0 g h;
+      never-full = λ h c e. Ends.never-full (divides p tol) (midpoint p) space 10000 0 c g h e;
+      full = λ h. Ends.full-exactly (divides p tol) (midpoint p) space 10000 0 g room h;
+      never-many = λ h c e. Ends.never-many (divides p tol) (midpoint p) space 10000 0 c g room h e;
+      many-count = λ c e. Ends.many-count (divides p tol) (midpoint p) space 10000 0 c g e;
+      full-count = λ c e. Ends.full-count (divides p tol) (midpoint p) space 10000 0 c g room e ∙ zero-add (space - length g);
+    }
