@@ -18,7 +18,7 @@ use Rattle.divide.specs.declared.Tolerances.{Tolerances}
 use Rattle.divide.specs.Testing.{jointsUnchanged, lerpJoints, midpoint, segmentWithin, nearAnEnd, divides}
 use Rattle.divide.specs.Price.{AllClose, Insertions, no-more, one-more, Divided, Price}
 use Rattle.divide.proofs.PriceGap.{unchanged-close}
-use Rattle.divide.proofs.PriceSound.{Sound, sound-mid}
+use Rattle.divide.proofs.PriceSound.{Limited, limited-mid, Sound, sound-mid}
 
 -- ---- the rule, taken apart
 denied : (b : Bool) → not b ≡ true → b ≡ false
@@ -76,15 +76,18 @@ module _ (p : Prepared) (tol : Tolerances) where
       })
       (insertions s)
 
-  module _ (k : Kinematics) (space : ℕ) (g : List Item) (room : length g ≤ space) (given : (i : Item) → List·Memᴰ i g → Sound k (i .joints)) where
-    mid-sound : (x y : Item) → Sound k (x .joints) → Sound k (y .joints) → Sound k (midpoint p x y .joints)
-    unfolding midpoint
-    mid-sound x y a b = sound-mid k (x .joints) (y .joints) a b
+  -- what holds of every given joint set, and of the midpoint of two of which it holds, holds of every joint set of the result
+  all-hold : (P : Joints → Type 0) → ((a b : Joints) → P a → P b → P (lerpJoints a b)) → {g r : List Item} {n : ℕ} → Steps (divides p tol) (midpoint p) g n r
+      → ((i : Item) → List·Memᴰ i g → P (i .joints)) → (i : Item) → List·Memᴰ i r → P (i .joints)
+  unfolding midpoint
+  all-hold P closed s given =
+      steps-all (divides p tol) (midpoint p) (λ i. P (i .joints)) (λ x y. closed (x .joints) (y .joints)) s given
 
-    -- of every joint set of the result
-    pub all-sound : {r : List Item} {n : ℕ} → Steps (divides p tol) (midpoint p) g n r → (i : Item) → List·Memᴰ i r → Sound k (i .joints)
-    all-sound s = steps-all (divides p tol) (midpoint p) (λ i. Sound k (i .joints)) mid-sound s given
+  pub all-sound : (k : Kinematics) {g r : List Item} {n : ℕ} → Steps (divides p tol) (midpoint p) g n r
+      → ((i : Item) → List·Memᴰ i g → Sound k (i .joints)) → (i : Item) → List·Memᴰ i r → Sound k (i .joints)
+  all-sound k s given = all-hold (Sound k) (sound-mid k) s given
 
+  module _ (k : Kinematics) (space : ℕ) (g : List Item) (room : length g ≤ space) (given : (i : Item) → List·Memᴰ i g → Limited k (i .joints)) where
     pub divided : (n : ℕ) (r : List Item) → halve (divides p tol) (midpoint p) space 10000 0 g ≡ Done n r → Divided k p tol g n r
     divided n r e =
         let d = Ends.result (divides p tol) (midpoint p) space 10000 n g r room e in
@@ -92,7 +95,7 @@ module _ (p : Prepared) (tol : Tolerances) where
           halved = d .steps;
           ended = d .ended;
           in-order = d .in-order;
-          limits = λ i m. all-sound (d .steps) i m .served .limits;
+          limits = λ i m. all-hold (Limited k) (limited-mid k) (d .steps) given i m .limits;
           inserted = insertions (d .steps);
           close = λ front x y back w f. kept-close x y (d .kept front x y back w) f;
           counted = d .counted;

@@ -1,16 +1,16 @@
--- What holds of the joint sets that division is given after a path is solved, and of the midpoint of two of which it holds: so it holds of all that are inserted. A midpoint lies between its ends, so limits and sizes stay.
-use mathlib.Core.Path.{_≡_, refl, sym, ap, _∙_, subst}
+-- What holds of solved joints, and of the midpoint of two of which it holds: so it holds of all that are inserted. A midpoint lies between its ends, so limits and sizes stay. `Limited` is what the price list's statement needs, of the angles
+-- alone; `Sound` is all that the solver and division's checks give.
+use mathlib.Core.Path.{_≡_, refl}
 use mathlib.Core.Bool.{Bool, true, false, _&&_, cond}
 use lib.Dec.{T, eqb}
 use lib.Ieee as Ieee
 use lib.Ieee.{Float, binary64, le, fits, ofBits}
-use lib.Ieee.Bits.{is-true, ofBits-fits}
-use lib.Ieee.Scale.{finite}
-use Rattle.float.specs.Helpers.{nought, sizeOf}
-use Rattle.float.proofs.Between.{big, Tame, tame-of, half-portion, way-between, way-fits, way-size, ten-million-big}
+use lib.Ieee.Bits.{ofBits-fits}
+use lib.Ieee.Fits.{add-fits}
+use Rattle.float.specs.Helpers.{nought}
+use Rattle.float.proofs.Between.{big, Tame, tame-of, half-portion, way-between, way-size, ten-million-big}
 use Rattle.float.proofs.Sizes.{size-le-parts}
 use Rattle.geometry.specs.declared.Vec3.{Vec3}
-use Rattle.geometry.specs.Direction.{allFinite}
 use Rattle.geometry.specs.Vector.{lerp, lerpVec}
 use Rattle.chain.specs.declared.Joints.{Joints}
 use Rattle.chain.specs.declared.Kinematics.{Kinematics}
@@ -24,16 +24,6 @@ use Rattle.path.specs.Promise.{Served}
 use Rattle.path.specs.declared.Bounds.{Bounds}
 use Rattle.divide.specs.Testing.{half, lerpJoints}
 
--- ---- served by the solver, within the sizes that division asks for, and each number one of the format
-pub record Sound (k : Kinematics) (j : Joints) : Type 0 where
-  pub served : Served k j
-  pub sizes : jointsWithin j ≡ true
-  pub fits-x : T (fits binary64 (j .xyz .x))
-  pub fits-y : T (fits binary64 (j .xyz .y))
-  pub fits-z : T (fits binary64 (j .xyz .z))
-  pub fits-a0 : T (fits binary64 (j .a0))
-  pub fits-a1 : T (fits binary64 (j .a1))
-
 -- ---- one number
 half-fits : T (fits binary64 half)
 half-fits = ofBits-fits binary64 0x3fe0_0000_0000_0000
@@ -42,17 +32,17 @@ turned-big : le mostTurned big ≡ true
 unfolding big ofBits Ieee.le Ieee.lt Ieee.eq
 turned-big = refl
 
-module _ (a b : Float) (fa : T (fits binary64 a)) (fb : T (fits binary64 b)) where
-  mid-fits : T (fits binary64 (lerp a b half))
-  mid-fits = Ieee.Fits.add-fits binary64 a _
+mid-fits : (a b : Float) → T (fits binary64 (lerp a b half))
+mid-fits a b = add-fits binary64 a _
 
+turned-tame : (x : Float) → within x mostTurned ≡ true → Tame x
+unfolding within
+turned-tame x h = let p = size-le-parts x mostTurned h in tame-of mostTurned x turned-big (p .0) (p .1)
+
+module _ (a b : Float) (fa : T (fits binary64 a)) (fb : T (fits binary64 b)) where
   mid-within : (c : Float) → le c big ≡ true → within a c ≡ true → within b c ≡ true → within (lerp a b half) c ≡ true
   unfolding within
   mid-within c h x y = way-size a b half c fa fb half-fits h half-portion x y
-
-  turned-tame : (x : Float) → within x mostTurned ≡ true → Tame x
-  unfolding within
-  turned-tame x h = let p = size-le-parts x mostTurned h in tame-of mostTurned x turned-big (p .0) (p .1)
 
   mid-permitted : (t : Travel) → within a mostTurned ≡ true → within b mostTurned ≡ true → permits t a ≡ true → permits t b ≡ true → permits t (lerp a b half) ≡ true
   unfolding contains
@@ -88,78 +78,115 @@ zero-mid : lerp nought nought half ≡ nought
 unfolding Ieee.add Ieee.sub Ieee.mul Ieee.neg Ieee.sum Ieee.round ofBits
 zero-mid = refl
 
-module _ (k : Kinematics) (a b : Joints) (A : Sound k a) (B : Sound k b) where
-  abbrev M : Joints
-  M = lerpJoints a b
+inside-parts : (c : Bounds) (j : Joints) → inside c j ≡ true → (firstInside c j ≡ true) × (secondInside c j ≡ true)
+unfolding inside
+inside-parts c j h = both (firstInside c j) (secondInside c j) h
 
-  parts-a : (allWithin (a .xyz) farthest ≡ true) × (within (a .a0) mostTurned ≡ true) × (within (a .a1) mostTurned ≡ true)
-  unfolding jointsWithin
-  parts-a = let p = both (allWithin (a .xyz) farthest && within (a .a0) mostTurned) (within (a .a1) mostTurned) (A .sizes) in let q = both (allWithin (a .xyz) farthest) (within (a .a0) mostTurned) (p .0) in (q .0, q .1, p .1)
+turned-parts : (j : Joints) → turnedWithin j ≡ true → (within (j .a0) mostTurned ≡ true) × (within (j .a1) mostTurned ≡ true)
+unfolding turnedWithin
+turned-parts j h = both (within (j .a0) mostTurned) (within (j .a1) mostTurned) h
 
-  parts-b : (allWithin (b .xyz) farthest ≡ true) × (within (b .a0) mostTurned ≡ true) × (within (b .a1) mostTurned ≡ true)
-  unfolding jointsWithin
-  parts-b = let p = both (allWithin (b .xyz) farthest && within (b .a0) mostTurned) (within (b .a1) mostTurned) (B .sizes) in let q = both (allWithin (b .xyz) farthest) (within (b .a0) mostTurned) (p .0) in (q .0, q .1, p .1)
+-- ---- the angles: within their rotaries' limits and 36,000 degrees, and numbers of the format
+pub record Limited (k : Kinematics) (j : Joints) : Type 0 where
+  pub limits : inside (boundsOf k) j ≡ true
+  pub turns : turnedWithin j ≡ true
+  pub fits-a0 : T (fits binary64 (j .a0))
+  pub fits-a1 : T (fits binary64 (j .a1))
 
-  mid-xyz : allWithin (M .xyz) farthest ≡ true
-  unfolding lerpJoints
-  mid-xyz = mid-all-within farthest ten-million-big (a .xyz) (b .xyz) (A .fits-x) (A .fits-y) (A .fits-z) (B .fits-x) (B .fits-y) (B .fits-z) (parts-a .0) (parts-b .0)
+pub served-limited : (k : Kinematics) (j : Joints) → Served k j → T (fits binary64 (j .a0)) → T (fits binary64 (j .a1)) → Limited k j
+served-limited k j s f g = record { limits = s .limits; turns = s .turns; fits-a0 = f; fits-a1 = g }
 
-  mid-a0 : within (M .a0) mostTurned ≡ true
-  unfolding lerpJoints
-  mid-a0 = mid-within (a .a0) (b .a0) (A .fits-a0) (B .fits-a0) mostTurned turned-big (parts-a .1) (parts-b .1)
-
-  mid-a1 : within (M .a1) mostTurned ≡ true
-  unfolding lerpJoints
-  mid-a1 = mid-within (a .a1) (b .a1) (A .fits-a1) (B .fits-a1) mostTurned turned-big (parts-a .2) (parts-b .2)
-
-  mid-sizes : jointsWithin M ≡ true
-  unfolding jointsWithin
-  mid-sizes = rw (mid-xyz, mid-a0, mid-a1)
-
-  mid-numbers : jointsFinite M ≡ true
-  unfolding jointsFinite
-  mid-numbers = rw (all-within-finite farthest over-farthest (M .xyz) mid-xyz, within-finite mostTurned over-turned (M .a0) mid-a0, within-finite mostTurned over-turned (M .a1) mid-a1)
-
-  mid-turns : turnedWithin M ≡ true
-  unfolding turnedWithin
-  mid-turns = rw (mid-a0, mid-a1)
-
-  inside-parts : (c : Bounds) (j : Joints) → inside c j ≡ true → (firstInside c j ≡ true) × (secondInside c j ≡ true)
-  unfolding inside
-  inside-parts c j h = both (firstInside c j) (secondInside c j) h
-
-  mid-first : (c : Bounds) → firstInside c a ≡ true → firstInside c b ≡ true → firstInside c M ≡ true
+module _ (k : Kinematics) (a b : Joints) (A : Limited k a) (B : Limited k b) where
+  first-mid : (c : Bounds) → firstInside c a ≡ true → firstInside c b ≡ true → firstInside c (lerpJoints a b) ≡ true
   unfolding firstInside lerpJoints
-  mid-first c g h = mid-permitted (a .a0) (b .a0) (A .fits-a0) (B .fits-a0) (c .outer) (parts-a .1) (parts-b .1) g h
+  first-mid c g h = mid-permitted (a .a0) (b .a0) (A .fits-a0) (B .fits-a0) (c .outer) (turned-parts a (A .turns) .0) (turned-parts b (B .turns) .0) g h
 
-  mid-second : (c : Bounds) → secondInside c a ≡ true → secondInside c b ≡ true → secondInside c M ≡ true
+  second-inside : (c : Bounds) → secondInside c a ≡ true → secondInside c b ≡ true → secondInside c (lerpJoints a b) ≡ true
   unfolding secondInside lerpJoints
-  mid-second c g h =
+  second-inside c g h =
       second-mid (c .two) (c .inner) (a .a1) (b .a1) (lerp (a .a1) (b .a1) half)
-      (mid-permitted (a .a1) (b .a1) (A .fits-a1) (B .fits-a1) (c .inner) (parts-a .2) (parts-b .2)) g h
+      (mid-permitted (a .a1) (b .a1) (A .fits-a1) (B .fits-a1) (c .inner) (turned-parts a (A .turns) .1) (turned-parts b (B .turns) .1)) g h
 
-  mid-limits : (c : Bounds) → inside c a ≡ true → inside c b ≡ true → inside c M ≡ true
+  inside-mid : (c : Bounds) → inside c a ≡ true → inside c b ≡ true → inside c (lerpJoints a b) ≡ true
   unfolding inside
-  mid-limits c g h =
+  inside-mid c g h =
       let p = inside-parts c a g in
       let q = inside-parts c b h in
-      rw (mid-first c (p .0) (q .0), mid-second c (p .1) (q .1))
+      rw (first-mid c (p .0) (q .0), second-inside c (p .1) (q .1))
 
-  mid-unused : eqb (k .count) 2 ≡ false → M .a1 ≡ nought
+  turned-mid : turnedWithin (lerpJoints a b) ≡ true
+  unfolding turnedWithin lerpJoints
+  turned-mid =
+      let p = turned-parts a (A .turns) in
+      let q = turned-parts b (B .turns) in
+      rw (
+        mid-within (a .a0) (b .a0) (A .fits-a0) (B .fits-a0) mostTurned turned-big (p .0) (q .0),
+        mid-within (a .a1) (b .a1) (A .fits-a1) (B .fits-a1) mostTurned turned-big (p .1) (q .1)
+      )
+
+  pub limited-mid : Limited k (lerpJoints a b)
+  unfolding lerpJoints
+  limited-mid = record {
+    limits = inside-mid (boundsOf k) (A .limits) (B .limits);
+    turns = turned-mid;
+    fits-a0 = mid-fits (a .a0) (b .a0);
+    fits-a1 = mid-fits (a .a1) (b .a1);
+  }
+
+-- ---- all five numbers: served by the solver, positions within the 10,000,000 mm that division asks for, and each a number of the format
+pub record Sound (k : Kinematics) (j : Joints) : Type 0 where
+  pub served : Served k j
+  pub sizes : allWithin (j .xyz) farthest ≡ true
+  pub fits-x : T (fits binary64 (j .xyz .x))
+  pub fits-y : T (fits binary64 (j .xyz .y))
+  pub fits-z : T (fits binary64 (j .xyz .z))
+  pub fits-a0 : T (fits binary64 (j .a0))
+  pub fits-a1 : T (fits binary64 (j .a1))
+
+pub sound-limited : (k : Kinematics) (j : Joints) → Sound k j → Limited k j
+sound-limited k j s = served-limited k j (s .served) (s .fits-a0) (s .fits-a1)
+
+-- what division's check of sizes passes
+pub sound-within : (k : Kinematics) (j : Joints) → Sound k j → jointsWithin j ≡ true
+unfolding jointsWithin
+sound-within k j s = let t = turned-parts j (s .served .turns) in rw (s .sizes, t .0, t .1)
+
+pub within-sizes : (j : Joints) → jointsWithin j ≡ true → allWithin (j .xyz) farthest ≡ true
+unfolding jointsWithin
+within-sizes j h =
+    let p = both (allWithin (j .xyz) farthest && within (j .a0) mostTurned) (within (j .a1) mostTurned) h in
+    both (allWithin (j .xyz) farthest) (within (j .a0) mostTurned) (p .0) .0
+
+module _ (k : Kinematics) (a b : Joints) (A : Sound k a) (B : Sound k b) where
+  mid-limited : Limited k (lerpJoints a b)
+  mid-limited = limited-mid k a b (sound-limited k a A) (sound-limited k b B)
+
+  mid-sizes : allWithin (lerpJoints a b .xyz) farthest ≡ true
+  unfolding lerpJoints
+  mid-sizes = mid-all-within farthest ten-million-big (a .xyz) (b .xyz) (A .fits-x) (A .fits-y) (A .fits-z) (B .fits-x) (B .fits-y) (B .fits-z) (A .sizes) (B .sizes)
+
+  mid-numbers : jointsFinite (lerpJoints a b) ≡ true
+  unfolding jointsFinite
+  mid-numbers =
+      let t = turned-parts (lerpJoints a b) (mid-limited .turns) in
+      rw (
+        all-within-finite farthest over-farthest (lerpJoints a b .xyz) mid-sizes,
+        within-finite mostTurned over-turned (lerpJoints a b .a0) (t .0),
+        within-finite mostTurned over-turned (lerpJoints a b .a1) (t .1)
+      )
+
+  mid-unused : eqb (k .count) 2 ≡ false → lerpJoints a b .a1 ≡ nought
   unfolding lerpJoints
   mid-unused e = rw (A .served .unused e, B .served .unused e) zero-mid
-
-  mid-served : Served k M
-  mid-served = record { numbers = mid-numbers; limits = mid-limits (boundsOf k) (A .served .limits) (B .served .limits); turns = mid-turns; unused = mid-unused }
 
   pub sound-mid : Sound k (lerpJoints a b)
   unfolding lerpJoints lerpVec
   sound-mid = record {
-    served = mid-served;
+    served = record { numbers = mid-numbers; limits = mid-limited .limits; turns = mid-limited .turns; unused = mid-unused };
     sizes = mid-sizes;
-    fits-x = mid-fits (a .xyz .x) (b .xyz .x) (A .fits-x) (B .fits-x);
-    fits-y = mid-fits (a .xyz .y) (b .xyz .y) (A .fits-y) (B .fits-y);
-    fits-z = mid-fits (a .xyz .z) (b .xyz .z) (A .fits-z) (B .fits-z);
-    fits-a0 = mid-fits (a .a0) (b .a0) (A .fits-a0) (B .fits-a0);
-    fits-a1 = mid-fits (a .a1) (b .a1) (A .fits-a1) (B .fits-a1);
+    fits-x = mid-fits (a .xyz .x) (b .xyz .x);
+    fits-y = mid-fits (a .xyz .y) (b .xyz .y);
+    fits-z = mid-fits (a .xyz .z) (b .xyz .z);
+    fits-a0 = mid-limited .fits-a0;
+    fits-a1 = mid-limited .fits-a1;
   }
