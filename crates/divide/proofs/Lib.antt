@@ -1,3 +1,4 @@
 pub mod PriceGap
 pub mod PriceSound
 pub mod Price
+pub mod PricePath

@@ -65,7 +65,7 @@ mid-all-within c h u v ux uy uz vx vy vz g k =
     rw (
       mid-within (u .x) (v .x) ux vx c h (q .0) (t .0),
       mid-within (u .y) (v .y) uy vy c h (q .1) (t .1),
-      mid-within (u .z) (v .z) uz vz c h (p .1) (s .1)
+      mid-within (u .z) (v .z) uz vz c h (p .1) (s .1),
     )
 
 -- ---- the limits: the second angle of a chain of one is not looked at
@@ -121,7 +121,7 @@ module _ (k : Kinematics) (a b : Joints) (A : Limited k a) (B : Limited k b) whe
       let q = turned-parts b (B .turns) in
       rw (
         mid-within (a .a0) (b .a0) (A .fits-a0) (B .fits-a0) mostTurned turned-big (p .0) (q .0),
-        mid-within (a .a1) (b .a1) (A .fits-a1) (B .fits-a1) mostTurned turned-big (p .1) (q .1)
+        mid-within (a .a1) (b .a1) (A .fits-a1) (B .fits-a1) mostTurned turned-big (p .1) (q .1),
       )
 
   pub limited-mid : Limited k (lerpJoints a b)
@@ -172,7 +172,7 @@ module _ (k : Kinematics) (a b : Joints) (A : Sound k a) (B : Sound k b) where
       rw (
         all-within-finite farthest over-farthest (lerpJoints a b .xyz) mid-sizes,
         within-finite mostTurned over-turned (lerpJoints a b .a0) (t .0),
-        within-finite mostTurned over-turned (lerpJoints a b .a1) (t .1)
+        within-finite mostTurned over-turned (lerpJoints a b .a1) (t .1),
       )
 
   mid-unused : eqb (k .count) 2 ≡ false → lerpJoints a b .a1 ≡ nought

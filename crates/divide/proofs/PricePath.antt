@@ -1,0 +1,64 @@
+-- Demand 3 of every path that is solved and then divided for one chain, whatever the start, cone, tolerances and space: `path-priced`.
+use Prim.Native.Nat.{ℕ, _≤_}
+use mathlib.Core.Path.{_≡_, refl, sym, ap, _∙_, subst}
+use mathlib.Core.Logic.{_⊎_, inl, inr}
+use mathlib.Core.List.{List, [], _∷_, List·Memᴰ, List·Memᴰ·cases-cons, List·Memᴰ·not-nil}
+use lib.Dec.{T}
+use lib.Ieee.{Float, binary64, fits}
+use lib.ListN.{length}
+use Rattle.lists.specs.Rows.{paired}
+use Rattle.chain.specs.declared.Joints.{Joints}
+use Rattle.chain.specs.declared.Kinematics.{Kinematics}
+use Rattle.chain.specs.declared.Prepared.{Prepared}
+use Rattle.chain.specs.declared.ToolPose.{ToolPose}
+use Rattle.chain.specs.Prepared.{prepared}
+use Rattle.path.specs.declared.Start.{Start}
+use Rattle.path.specs.Promise.{Served, Each, OnPath}
+use Rattle.path.specs.Solving.{Along, posesIn, solvePath}
+use Rattle.path.proofs.Promises.{path-served}
+use Rattle.halving.specs.Halving.{halve}
+use Rattle.halving.proofs.Steps.{Steps}
+use Rattle.halving.proofs.Pairs.{steps-inserts, inserts-one}
+use Rattle.divide.specs.declared.Item.{Item}
+use Rattle.divide.specs.declared.Tolerances.{Tolerances}
+use Rattle.divide.specs.Testing.{midpoint, divides}
+use Rattle.divide.specs.Price.{Divided, Price}
+use Rattle.divide.proofs.PriceSound.{Limited, served-limited}
+use Rattle.divide.proofs.Price.{priced}
+
+-- ---- there is one result: what is said of the halving in `Divided` leaves no other list and no other count
+pub divided-one : {k : Kinematics} {p : Prepared} {tol : Tolerances} {g r t : List Item} {n m : ℕ} → Divided k p tol g n r → Divided k p tol g m t → (n ≡ m) × (r ≡ t)
+divided-one {p = p} {tol = tol} a b =
+    let (i, u) = steps-inserts (divides p tol) (midpoint p) (a .halved) (a .ended) in
+    let (j, v) = steps-inserts (divides p tol) (midpoint p) (b .halved) (b .ended) in
+    let o = inserts-one (divides p tol) (midpoint p) (u .0) (v .0) in
+    (sym (u .1) ∙ ap length (o .0) ∙ v .1, o .1)
+
+-- ---- poses and joint sets side by side
+module _ (item : ToolPose → Joints → Item) (holds : (q : ToolPose) (j : Joints) → item q j .joints ≡ j) where
+  pub paired-given : (P : Joints → Type 0) (poses : List ToolPose) (l : List Joints) → Each P l → (i : Item) → List·Memᴰ i (paired item poses l) → P (i .joints)
+  unfolding paired
+  paired-given P [] l e i m = absurd (List·Memᴰ·not-nil m)
+  paired-given P (q ∷ poses) [] e i m = absurd (List·Memᴰ·not-nil m)
+  paired-given P (q ∷ poses) (j ∷ l) e i m = go (List·Memᴰ·cases-cons m) (paired-given P poses l (e .1) i)
+    where
+      go : (i ≡ item q j) ⊎ List·Memᴰ i (paired item poses l) → (List·Memᴰ i (paired item poses l) → P (i .joints)) → P (i .joints)
+      go (inl w) on = subst P (sym (ap (λ (x : Item). x .joints) w ∙ holds q j)) (e .0)
+      go (inr w) on = on w
+
+-- ---- solved joints
+abbrev pub AnglesFit : Joints → Type 0
+AnglesFit j = T (fits binary64 (j .a0)) × T (fits binary64 (j .a1))
+
+each-limited : (k : Kinematics) (l : List Joints) → Each (Served k) l → Each AnglesFit l → Each (Limited k) l
+each-limited k [] s f = tt
+each-limited k (j ∷ l) s f = (served-limited k j (s .0) (f .0 .0) (f .0 .1), each-limited k l (s .1) (f .1))
+
+module _ (k : Kinematics) (poses : List Float) (start : Start) (cone : Float) (numbers : ℕ) (l : List Joints) (solved : solvePath k poses start cone numbers ≡ Along l) (angles : Each AnglesFit l) where
+  pub path-limited : Each (Limited k) l
+  path-limited = each-limited k l (subst (OnPath (Served k)) solved (path-served k poses start cone numbers)) angles
+
+  module _ (item : ToolPose → Joints → Item) (holds : (q : ToolPose) (j : Joints) → item q j .joints ≡ j) (tol : Tolerances) (space : ℕ) where
+    pub path-priced : length (paired item (posesIn poses) l) ≤ space
+        → Price k (prepared k) tol space (paired item (posesIn poses) l) (halve (divides (prepared k) tol) (midpoint (prepared k)) space 10000 0 (paired item (posesIn poses) l))
+    path-priced room = priced (prepared k) tol k space (paired item (posesIn poses) l) room (paired-given item holds (Limited k) (posesIn poses) l path-limited)
