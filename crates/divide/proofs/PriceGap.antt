@@ -1,14 +1,14 @@
 -- Joint sets that the Rust's comparison takes for unchanged are at most 1e-12 apart in each of their five numbers. A length of at most 1e-12 has no infinity and no NaN among its parts: no size of the joints is needed.
-use mathlib.Core.Path.{_≡_, refl, sym, ap, _∙_, subst}
+use mathlib.Core.Path.{_≡_, refl, sym}
 use mathlib.Core.Bool.{Bool, true, false, _&&_, false≢true}
 use Prim.Native.Nat.{ℕ, _*_}
 use native.Mathlib.Nat.{mul-pos}
 use lib.Dec.{T}
-use lib.Ieee as Ieee
-use lib.Ieee.{Float, nan, inf, fin, binary64, unlike, up, down, round, add, mul, sub, le, lt, eq, fits, ofBits}
+use lib.IntN.{ℤ}
+use lib.Ieee.{Float, nan, inf, fin, binary64, up, down, add, mul, le, lt, eq, ofBits}
 use lib.Ieee.Fits.{down-pos, mul-fits, sub-fits}
 use lib.Ieee.Scale.{finite}
-use Rattle.float.specs.Helpers.{nought, sizeOf}
+use Rattle.float.specs.Helpers.{nought}
 use Rattle.float.specs.Root.{root}
 use Rattle.float.proofs.Order as order
 use Rattle.float.proofs.RootOrder.{round-nn, add-above, norm}
@@ -78,7 +78,7 @@ square-lost (inf true) h = tt
 square-lost (inf false) h = tt
 square-lost (fin s m e) h = absurd (false≢true (sym h))
 
-square-low : (s : Bool) (m : ℕ) (e : lib.IntN.ℤ) → le nought (mul binary64 (fin s m e) (fin s m e)) ≡ true
+square-low : (s : Bool) (m : ℕ) (e : ℤ) → le nought (mul binary64 (fin s m e) (fin s m e)) ≡ true
 unfolding mul
 square-low true m e = round-nn (m * up e * (m * up e)) (down e * down e) (mul-pos (down-pos e) (down-pos e))
 square-low false m e = round-nn (m * up e * (m * up e)) (down e * down e) (mul-pos (down-pos e) (down-pos e))

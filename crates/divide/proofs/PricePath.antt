@@ -1,6 +1,6 @@
 -- Demand 3 of every path that is solved and then divided for one chain, whatever the start, cone, tolerances and space: `path-priced`.
 use Prim.Native.Nat.{ℕ, _≤_}
-use mathlib.Core.Path.{_≡_, refl, sym, ap, _∙_, subst}
+use mathlib.Core.Path.{_≡_, sym, ap, _∙_, subst}
 use mathlib.Core.Logic.{_⊎_, inl, inr}
 use mathlib.Core.List.{List, [], _∷_, List·Memᴰ, List·Memᴰ·cases-cons, List·Memᴰ·not-nil}
 use lib.Dec.{T}
@@ -17,7 +17,6 @@ use Rattle.path.specs.Promise.{Served, Each, OnPath}
 use Rattle.path.specs.Solving.{Along, posesIn, solvePath}
 use Rattle.path.proofs.Promises.{path-served}
 use Rattle.halving.specs.Halving.{halve}
-use Rattle.halving.proofs.Steps.{Steps}
 use Rattle.halving.proofs.Pairs.{steps-inserts, inserts-one}
 use Rattle.divide.specs.declared.Item.{Item}
 use Rattle.divide.specs.declared.Tolerances.{Tolerances}
