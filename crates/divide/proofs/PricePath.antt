@@ -1,12 +1,13 @@
 -- Demand 3 of every path that is solved and then divided for one chain, whatever the start, cone, tolerances and space: `path-priced`.
-use Prim.Native.Nat.{ℕ, _≤_}
+use Prim.Native.Nat.{ℕ, zero, suc, _+_, _≤_}
 use mathlib.Core.Path.{_≡_, sym, ap, _∙_, subst}
 use mathlib.Core.Logic.{_⊎_, inl, inr}
 use mathlib.Core.List.{List, [], _∷_, List·Memᴰ, List·Memᴰ·cases-cons, List·Memᴰ·not-nil}
 use lib.Dec.{T}
 use lib.Ieee.{Float, binary64, fits}
-use lib.ListN.{length}
-use Rattle.lists.specs.Rows.{paired}
+use lib.ListN.{length, getD, drop}
+use lib.Seq.{getD-drop}
+use Rattle.lists.specs.Rows.{rows, paired}
 use Rattle.chain.specs.declared.Joints.{Joints}
 use Rattle.chain.specs.declared.Kinematics.{Kinematics}
 use Rattle.chain.specs.declared.Prepared.{Prepared}
@@ -61,3 +62,16 @@ module _ (k : Kinematics) (poses : List Float) (start : Start) (cone : Float) (n
     pub path-priced : length (paired item (posesIn poses) l) ≤ space
         → Price k (prepared k) tol space (paired item (posesIn poses) l) (halve (divides (prepared k) tol) (midpoint (prepared k)) space 10000 0 (paired item (posesIn poses) l))
     path-priced room = priced (prepared k) tol k space (paired item (posesIn poses) l) room (paired-given item holds (Limited k) (posesIn poses) l path-limited)
+
+-- ---- joint sets read from lent numbers, five for each
+module _ (d : Float) (get : List Float → Joints) (first : (l : List Float) → get l .a0 ≡ getD l 3 d) (second : (l : List Float) → get l .a1 ≡ getD l 4 d) where
+  pub rows-fit : (n : ℕ) (l : List Float) → ((i : ℕ) → T (fits binary64 (getD l i d))) → Each AnglesFit (rows 5 get n l)
+  unfolding rows
+  rows-fit zero l h = tt
+  rows-fit (suc n) l h = (
+    (subst Fit (sym (first l)) (h 3), subst Fit (sym (second l)) (h 4)),
+    rows-fit n (drop 5 l) (λ i. subst Fit (sym (getD-drop 5 l i d)) (h (5 + i))),
+  )
+    where
+      Fit : Float → Type 0
+      Fit x = T (fits binary64 x)
