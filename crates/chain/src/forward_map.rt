@@ -56,35 +56,6 @@ pub fn turns_of(p: Prepared, a0: f64, a1: f64) -> Turns
     Turns { first, second }
 }
 
-// How the position turns a rotary: a table by its angle. What is no table it leaves.
-fn swing_forth(mount: Mount, angle: f64) -> Turn
-    ensures { λ r. ⌜ r ≡ S.swingForth mount angle ⌝ }
-{
-    match mount {
-        Mount::Table => Turn::of(angle),
-        Mount::Head => Turn {
-            sine: 0.0,
-            cosine: 1.0,
-        },
-        Mount::Absent => Turn {
-            sine: 0.0,
-            cosine: 1.0,
-        },
-    }
-}
-
-pub fn tables_forth(p: Prepared, a0: f64, a1: f64) -> Turns
-    ensures { λ r. ⌜ r ≡ S.tablesForth p a0 a1 ⌝ }
-{
-    let outer = p.first;
-    let inner = p.second;
-    let outer_mount = outer.mount;
-    let inner_mount = inner.mount;
-    let first = swing_forth(outer_mount, a0);
-    let second = swing_forth(inner_mount, a1);
-    Turns { first, second }
-}
-
 // A point moved by a rotary of the head; a table leaves it.
 pub fn head_point(s: Spin, turn: Turn, point: Vec3) -> Vec3
     ensures { λ r. ⌜ r ≡ S.headPoint s turn point ⌝ }
@@ -296,7 +267,7 @@ fn swing_from(mount: Mount, back: Turn, angle: f64) -> Turn
     }
 }
 
-// `tables_forth` from `turns_of` at the same angles, with no sine or cosine made anew.
+// The tables forth, from `turns_of` at the same angles, with no sine or cosine made anew.
 pub fn forth_from(p: Prepared, back: Turns, a0: f64, a1: f64) -> Turns
     ensures { λ r. ⌜ r ≡ S.forthFrom p back a0 a1 ⌝ }
 {

@@ -38,7 +38,6 @@ pub use forward_map::length_good;
 pub use forward_map::position;
 pub use forward_map::table_point;
 pub use forward_map::table_vector;
-pub use forward_map::tables_forth;
 pub use forward_map::turns_of;
 use geometry::Turn;
 use geometry::Vec3;
@@ -121,7 +120,7 @@ pub struct Prepared {
     pub spindle: Vec3,
 }
 
-// For each rotary its turn: by which `forward` moves it, a head forth, a table back (turns_of); or a table forth, as the position needs it (tables_forth, forth_from).
+// For each rotary its turn: by which `forward` moves it, a head forth, a table back (turns_of); or a table forth, as the position needs it (forth_from).
 pub struct Turns {
     pub first: Turn,
     pub second: Turn,

@@ -1,3 +1,12 @@
+pub mod Verdicts
+pub mod Turned
+pub mod Stored
+pub mod Cached
+pub mod Running
+pub mod Runs
+pub mod Bringing
+pub mod Divides
+pub mod Copies
 pub mod PriceGap
 pub mod PriceSound
 pub mod Price

@@ -1,9 +1,13 @@
 // Division: poses put between the given ones until two tolerances hold at the middle of every two neighbours (subdivide_path of the Rust). The list is halved as document 01 says (crate halving); this crate has
 // the test, the midpoint, and the machine that does it in lent outputs.
+mod dividing;
+mod items;
 mod testing;
+mod turning;
 
 use chain::Joints;
 use chain::ToolPose;
+use geometry::Vec3;
 pub use testing::joints_unchanged;
 pub use testing::lerp_joints;
 pub use testing::midpoint;
@@ -26,4 +30,29 @@ pub struct Item {
 pub enum Verdict {
     Keep,
     Divide(Item),
+}
+
+// The state of a halving in lent outputs: how many items are placed; the index of the first that waits; how many were inserted; how many of those that wait are given ones, which stand last; the axis that the last
+// placed joint set reaches; and the one that the first waiting given one reaches, if there is one.
+pub struct Machine {
+    pub placed: usize,
+    pub waiting: usize,
+    pub inserted: u64,
+    pub given: usize,
+    pub left_axis: Vec3,
+    pub end_axis: Vec3,
+}
+
+// What one test comes to; a refusal has the number inserted.
+pub enum Turn {
+    On(Machine),
+    TooMany(u64),
+    NoSpace(u64),
+}
+
+// How a division ended, with the number of poses inserted: all done, one too many (27), or without space (28).
+pub enum Divided {
+    Done(u64),
+    TooMany(u64),
+    NoSpace(u64),
 }
