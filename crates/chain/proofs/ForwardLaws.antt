@@ -23,7 +23,7 @@ use Rattle.chain.specs.Prepared.{prepared}
 use Rattle.chain.specs.Forward.{turnsOf, reach, posed, lengthGood, forwardSizes, forwardCheck, unlessRefused, forward, forwardRead}
 use Rattle.chain.specs.ChainBytes.{readChain}
 use Rattle.chain.specs.Ready.{passed, readyOf, readyRead, ready}
-use Rattle.chain.specs.ReadySteps.{numbersGood, refusedBy, refusedRead}
+use Rattle.chain.specs.ReadySteps.{numbersGood, refusedBy, refusedRead, fromReady}
 use Rattle.chain.proofs.ReadyLaws.{both, same, is-passed, within-finite, all-within-finite, over-longest, over-farthest, over-turned}
 
 joints-finite : (j : Joints) → jointsWithin j ≡ true → jointsFinite j ≡ true
@@ -120,3 +120,8 @@ module _ (bytes : List ℕ) (j : Joints) (tool : Float) where
   pub chain-refused : ready bytes ≡ Unserved → refusedRead (readChain 72 bytes) j tool ≡ forwardRead (readChain 72 bytes) j tool
   unfolding ready
   chain-refused h = unserved (readChain 72 bytes) j tool (inr h)
+
+  -- whatever the bytes come to
+  pub from-ready : (x : Ready) → ready bytes ≡ x → numbersGood j tool ≡ true → fromReady x (readChain 72 bytes) j tool ≡ forwardRead (readChain 72 bytes) j tool
+  from-ready (Served p) h n = served-from p h n
+  from-ready Unserved h n = chain-refused h

@@ -1,4 +1,4 @@
--- The words in which the inner functions of `ready_from` and `forward_from` promise their results. A reader who believes `Ready` and `Forward` needs none of them.
+-- The words in which the inner functions of `forward_from` promise their results. A reader who believes `Ready` and `Forward` needs none of them.
 use mathlib.Core.Bool.{Bool, true, not, _&&_, cond}
 use mathlib.Core.List.{List}
 use Prim.Native.Nat.{ℕ, _+_, _*_}
@@ -26,9 +26,9 @@ use Rattle.chain.specs.declared.Ready.{Ready}
 use Rattle.chain.specs.declared.Ready.the-variants.{Served, Unserved}
 use Rattle.chain.specs.Bytes.{byteAt, vectorAt}
 use Rattle.chain.specs.Check.{knownLetter, otherLetter, travelGood, allWithin, within, longest, jointsWithin}
-use Rattle.chain.specs.ChainBytes.{zeros, rotaryFields, rotaryAt, carrierOf, zeroVector}
+use Rattle.chain.specs.ChainBytes.{readChain, zeros, rotaryFields, rotaryAt, carrierOf, zeroVector}
 use Rattle.chain.specs.Prepared.{mountOf}
-use Rattle.chain.specs.Forward.{forwardCheck}
+use Rattle.chain.specs.Forward.{forwardCheck, posed, reach, turnsOf}
 use Rattle.chain.specs.Ready.{passed}
 
 -- ---- what must be, the directions aside
@@ -87,3 +87,11 @@ refusedBy (Checked.Refused r) = Posed.Refused r
 abbrev pub refusedRead : ChainRead → Joints → Float → Posed
 refusedRead (ChainRead.Refused r) j tool = Posed.Refused r
 refusedRead (ChainRead.Chain k) j tool = refusedBy (forwardCheck k j tool)
+
+-- what forward makes of a chain from its bytes
+abbrev pub fromReady : Ready → ChainRead → Joints → Float → Posed
+fromReady (Served p) read j tool = posed (reach p (turnsOf p (j .a0) (j .a1)) (j .xyz) tool)
+fromReady Unserved read j tool = refusedRead read j tool
+
+unfoldable pub forwardCounted : List ℕ → ℕ → Joints → Float → Posed
+forwardCounted bytes count j tool = fromReady (readyCounted bytes count) (readChain 72 bytes) j tool

@@ -1,6 +1,8 @@
 // The forward map: from the gauge point and the angles to the tool's tip and axis in the part frame. Heads move the tool, inner joint first; the part frame follows by turning the tables back, outer
 // joint first.
+ghost use Prim.Native.Nat.{_+_, _*_, _≤_};
 ghost use mathlib.Core.Path.{_≡_};
+ghost use lib.ListN.{length};
 ghost use Rattle.chain.specs.ChainBytes.{readChain};
 ghost use Rattle.chain.specs.Forward as S;
 ghost use Rattle.chain.specs.ReadySteps as Steps;
@@ -11,20 +13,25 @@ use crate::Kinematics;
 use crate::Mount;
 use crate::Posed;
 use crate::Prepared;
-use crate::Ready;
 use crate::Spin;
 use crate::ToolPose;
 use crate::Turns;
+use crate::bytes_at::byte_at;
+use crate::bytes_at::vector_at;
 use crate::chain_bytes::read_chain;
 use crate::checks::chain_check;
 use crate::checks::demand;
 use crate::checks::joints_finite;
 use crate::checks::joints_within;
+use crate::checks::one_or_two;
 use crate::checks::pivots_within;
 use crate::checks::then;
 use crate::checks::within;
 use crate::prepare_chain::prepare;
-use crate::ready_chain::ready_from;
+use crate::ready_chain::first_good;
+use crate::ready_chain::prepared_at;
+use crate::ready_chain::second_axis;
+use crate::ready_chain::second_good;
 use geometry::Direction;
 use geometry::Turn;
 use geometry::Vec3;
@@ -236,6 +243,32 @@ fn refused_read(read: ChainRead, j: Joints, tool_length: f64) -> Posed
     }
 }
 
+// With bytes of the length of that count, and numbers that serve: the prepared chain does not leave this function.
+fn forward_counted(bytes: &[u8], count: u8, j: Joints, tool_length: f64) -> Posed
+    requires { ⌜ (1 ≤ count) × (32 + 72 * count ≤ length (now bytes)) ⌝ }
+    ensures { λ r. ⌜ r ≡ Steps.forwardCounted (now (bytes .entry)) count j «tool_length» ⌝ }
+{
+    if !first_good(bytes) {
+        return refused_read(read_chain(bytes), j, tool_length);
+    }
+    if !second_good(bytes, count) {
+        return refused_read(read_chain(bytes), j, tool_length);
+    }
+    let Direction::Unit(axis) = geometry::unit_direction(vector_at(bytes, 16)) else {
+        return refused_read(read_chain(bytes), j, tool_length);
+    };
+    let Direction::Unit(inner) = second_axis(bytes, count) else {
+        return refused_read(read_chain(bytes), j, tool_length);
+    };
+    let spindle_axis = vector_at(bytes, 8 + 72 * count as usize);
+    let Direction::Unit(spindle) = geometry::unit_direction(spindle_axis) else {
+        return refused_read(read_chain(bytes), j, tool_length);
+    };
+    let p = prepared_at(bytes, count, axis, inner, spindle);
+    let turns = turns_of(p, j.a0, j.a1);
+    posed(reach(p, turns, j.xyz, tool_length))
+}
+
 // `forward` of a chain's bytes: the chain is prepared while it is checked, and the refusal is looked up only where there is one.
 pub fn forward_from(bytes: &[u8], j: Joints, tool_length: f64) -> Posed
     ensures { λ r. ⌜ r ≡ S.forwardRead (readChain 72 (now (bytes .entry))) j «tool_length» ⌝ }
@@ -243,11 +276,17 @@ pub fn forward_from(bytes: &[u8], j: Joints, tool_length: f64) -> Posed
     if !numbers_good(j, tool_length) {
         return refused_read(read_chain(bytes), j, tool_length);
     }
-    let Ready::Served(p) = ready_from(bytes) else {
+    if bytes.len() < 1 {
         return refused_read(read_chain(bytes), j, tool_length);
-    };
-    let turns = turns_of(p, j.a0, j.a1);
-    posed(reach(p, turns, j.xyz, tool_length))
+    }
+    let count = byte_at(bytes, 0);
+    if !one_or_two(count) {
+        return refused_read(read_chain(bytes), j, tool_length);
+    }
+    if bytes.len() != 32 + 72 * count as usize {
+        return refused_read(read_chain(bytes), j, tool_length);
+    }
+    forward_counted(bytes, count, j, tool_length)
 }
 
 // How the position turns a rotary, from the turn by which forward moves it.

@@ -43,7 +43,6 @@ use geometry::Turn;
 use geometry::Vec3;
 pub use prepare_chain::checked_chain;
 pub use prepare_chain::prepare;
-pub use ready_chain::ready_from;
 use refusal::Refusal;
 
 // Which slide carries a rotary: a table turns the work, a head the tool.

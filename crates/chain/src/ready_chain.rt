@@ -11,7 +11,6 @@ ghost use Rattle.chain.specs.ReadySteps as Steps;
 use crate::Checked;
 use crate::Mount;
 use crate::Prepared;
-use crate::Ready;
 use crate::Spin;
 use crate::bytes_at::byte_at;
 use crate::bytes_at::spare;
@@ -71,7 +70,7 @@ fn record_good(bytes: &[u8], at: usize, earlier: u8) -> bool
     all_within(vector_at(bytes, at + 32), 100000.0)
 }
 
-fn first_good(bytes: &[u8]) -> bool
+pub fn first_good(bytes: &[u8]) -> bool
     requires { ⌜ 80 ≤ length (now bytes) ⌝ }
     ensures { λ r. ⌜ r ≡ Steps.firstGood (now (bytes .entry)) ⌝ }
 {
@@ -82,7 +81,7 @@ fn first_good(bytes: &[u8]) -> bool
     record_good(bytes, 8, 0)
 }
 
-fn second_good(bytes: &[u8], count: u8) -> bool
+pub fn second_good(bytes: &[u8], count: u8) -> bool
     requires { ⌜ 32 + 72 * count ≤ length (now bytes) ⌝ }
     ensures { λ r. ⌜ r ≡ Steps.secondGood (now (bytes .entry)) count ⌝ }
 {
@@ -92,7 +91,7 @@ fn second_good(bytes: &[u8], count: u8) -> bool
     true
 }
 
-fn second_axis(bytes: &[u8], count: u8) -> Direction
+pub fn second_axis(bytes: &[u8], count: u8) -> Direction
     requires { ⌜ 32 + 72 * count ≤ length (now bytes) ⌝ }
     ensures { λ r. ⌜ r ≡ Steps.secondAxis (now (bytes .entry)) count ⌝ }
 {
@@ -138,7 +137,7 @@ fn second_pivot(bytes: &[u8], count: u8) -> Vec3
 }
 
 // The chain with these unit axes.
-fn prepared_at(bytes: &[u8], count: u8, axis: Vec3, inner: Vec3, spindle: Vec3) -> Prepared
+pub fn prepared_at(bytes: &[u8], count: u8, axis: Vec3, inner: Vec3, spindle: Vec3) -> Prepared
     requires { ⌜ (1 ≤ count) × (32 + 72 * count ≤ length (now bytes)) ⌝ }
     ensures { λ r. ⌜ r ≡ Steps.preparedAt (now (bytes .entry)) count axis inner spindle ⌝ }
 {
@@ -157,44 +156,4 @@ fn prepared_at(bytes: &[u8], count: u8, axis: Vec3, inner: Vec3, spindle: Vec3) 
         second,
         spindle,
     }
-}
-
-fn ready_counted(bytes: &[u8], count: u8) -> Ready
-    requires { ⌜ (1 ≤ count) × (32 + 72 * count ≤ length (now bytes)) ⌝ }
-    ensures { λ r. ⌜ r ≡ Steps.readyCounted (now (bytes .entry)) count ⌝ }
-{
-    if !first_good(bytes) {
-        return Ready::Unserved;
-    }
-    if !second_good(bytes, count) {
-        return Ready::Unserved;
-    }
-    let Direction::Unit(axis) = geometry::unit_direction(vector_at(bytes, 16)) else {
-        return Ready::Unserved;
-    };
-    let Direction::Unit(inner) = second_axis(bytes, count) else {
-        return Ready::Unserved;
-    };
-    let spindle_axis = vector_at(bytes, 8 + 72 * count as usize);
-    let Direction::Unit(spindle) = geometry::unit_direction(spindle_axis) else {
-        return Ready::Unserved;
-    };
-    Ready::Served(prepared_at(bytes, count, axis, inner, spindle))
-}
-
-// The chain prepared, where its bytes, its check and its sizes pass.
-pub fn ready_from(bytes: &[u8]) -> Ready
-    ensures { λ r. ⌜ r ≡ S.ready (now (bytes .entry)) ⌝ }
-{
-    if bytes.len() < 1 {
-        return Ready::Unserved;
-    }
-    let count = byte_at(bytes, 0);
-    if !one_or_two(count) {
-        return Ready::Unserved;
-    }
-    if bytes.len() != 32 + 72 * count as usize {
-        return Ready::Unserved;
-    }
-    ready_counted(bytes, count)
 }
