@@ -136,7 +136,7 @@ pub enum ChainRead {
     Refused(Refusal),
 }
 
-// What `ready_from` answers: a chain that passes every check of its own, prepared.
+// A chain from its bytes: one that passes every check of its own, prepared, or one that some check refuses.
 pub enum Ready {
     Served(Prepared),
     Unserved,
