@@ -1,8 +1,8 @@
 -- Demand 3 holds of document 01's halving, for every list of poses with solved joints: `priced`.
-use Prim.Native.Nat.{ℕ, _-_, _≤_}
+use Prim.Native.Nat.{ℕ, suc, _+_, _-_, _≤_, _<_}
 use native.Mathlib.Nat.{zero-add}
 use mathlib.Core.Path.{_≡_, refl, sym, _∙_}
-use mathlib.Core.Logic.{_⊎_, inl, inr}
+use mathlib.Core.Logic.{_⊎_, inl, inr, _↔_}
 use mathlib.Core.Bool.{Bool, true, false, not, _&&_, _||_, true≢false}
 use mathlib.Core.List.{List, List·Memᴰ}
 use lib.ListN.{length}
@@ -10,15 +10,25 @@ use Rattle.chain.specs.declared.Joints.{Joints}
 use Rattle.chain.specs.declared.Kinematics.{Kinematics}
 use Rattle.chain.specs.declared.Prepared.{Prepared}
 use Rattle.chain.proofs.ReadyLaws.{both}
-use Rattle.halving.specs.Halving.{halve, Done}
-use Rattle.halving.proofs.Steps.{Steps, here, more, step-division, steps-all}
+use Rattle.halving.specs.Halving.{Answer, Done, TooMany, NoSpace, halve, Steps, here, more, Needs}
+use Rattle.halving.proofs.Steps.{step-division, steps-all}
 use Rattle.halving.proofs.Ends as Ends
 use Rattle.divide.specs.declared.Item.{Item}
 use Rattle.divide.specs.declared.Tolerances.{Tolerances}
 use Rattle.divide.specs.Testing.{jointsUnchanged, lerpJoints, midpoint, segmentWithin, nearAnEnd, divides}
-use Rattle.divide.specs.Price.{AllClose, Insertions, no-more, one-more, Divided, Price}
+use Rattle.divide.specs.Price.{AllClose, Insertions, no-more, one-more, Result}
 use Rattle.divide.proofs.PriceGap.{unchanged-close}
 use Rattle.divide.proofs.PriceSound.{Limited, limited-mid, Sound, sound-mid}
+
+-- ---- what the price list states, of the halving's own answer
+pub record Answered (k : Kinematics) (p : Prepared) (tol : Tolerances) (space : ℕ) (g : List Item) (answer : Answer Item) : Type 0 where
+  pub divided : (n : ℕ) (r : List Item) → answer ≡ Done n r → Result k p tol g n r
+  pub many : length g + 10000 ≤ space → ((c : ℕ) × (answer ≡ TooMany c)) ↔ Needs (divides p tol) (midpoint p) 10001 g
+  pub never-full : length g + 10000 ≤ space → (c : ℕ) → answer ≡ NoSpace c → ⊥
+  pub full : space < length g + 10000 → ((c : ℕ) × (answer ≡ NoSpace c)) ↔ Needs (divides p tol) (midpoint p) (suc (space - length g)) g
+  pub never-many : space < length g + 10000 → (c : ℕ) → answer ≡ TooMany c → ⊥
+  pub many-count : (c : ℕ) → answer ≡ TooMany c → c ≡ 10000
+  pub full-count : (c : ℕ) → answer ≡ NoSpace c → c ≡ space - length g
 
 -- ---- the rule, taken apart
 denied : (b : Bool) → not b ≡ true → b ≡ false
@@ -88,7 +98,7 @@ module _ (p : Prepared) (tol : Tolerances) where
   all-sound k s given = all-hold (Sound k) (sound-mid k) s given
 
   module _ (k : Kinematics) (space : ℕ) (g : List Item) (room : length g ≤ space) (given : (i : Item) → List·Memᴰ i g → Limited k (i .joints)) where
-    pub divided : (n : ℕ) (r : List Item) → halve (divides p tol) (midpoint p) space 10000 0 g ≡ Done n r → Divided k p tol g n r
+    pub divided : (n : ℕ) (r : List Item) → halve (divides p tol) (midpoint p) space 10000 0 g ≡ Done n r → Result k p tol g n r
     divided n r e =
         let d = Ends.result (divides p tol) (midpoint p) space 10000 n g r room e in
         record {
@@ -101,7 +111,7 @@ module _ (p : Prepared) (tol : Tolerances) where
           counted = d .counted;
         }
 
-    pub priced : Price k p tol space g (halve (divides p tol) (midpoint p) space 10000 0 g)
+    pub priced : Answered k p tol space g (halve (divides p tol) (midpoint p) space 10000 0 g)
     priced = record {
       divided = divided;
       many = λ h. Ends.many-exactly (divides p tol) (midpoint p) space 10000 0 g h;

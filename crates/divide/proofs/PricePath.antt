@@ -22,12 +22,12 @@ use Rattle.halving.proofs.Pairs.{steps-inserts, inserts-one}
 use Rattle.divide.specs.declared.Item.{Item}
 use Rattle.divide.specs.declared.Tolerances.{Tolerances}
 use Rattle.divide.specs.Testing.{midpoint, divides}
-use Rattle.divide.specs.Price.{Divided, Price}
+use Rattle.divide.specs.Price.{Result}
 use Rattle.divide.proofs.PriceSound.{Limited, served-limited}
 use Rattle.divide.proofs.Price.{priced}
 
--- ---- there is one result: what is said of the halving in `Divided` leaves no other list and no other count
-pub divided-one : {k : Kinematics} {p : Prepared} {tol : Tolerances} {g r t : List Item} {n m : ℕ} → Divided k p tol g n r → Divided k p tol g m t → (n ≡ m) × (r ≡ t)
+-- ---- there is one result: what is said of the halving in `Result` leaves no other list and no other count
+pub divided-one : {k : Kinematics} {p : Prepared} {tol : Tolerances} {g r t : List Item} {n m : ℕ} → Result k p tol g n r → Result k p tol g m t → (n ≡ m) × (r ≡ t)
 divided-one {p = p} {tol = tol} a b =
     let (i, u) = steps-inserts (divides p tol) (midpoint p) (a .halved) (a .ended) in
     let (j, v) = steps-inserts (divides p tol) (midpoint p) (b .halved) (b .ended) in
@@ -54,14 +54,9 @@ each-limited : (k : Kinematics) (l : List Joints) → Each (Served k) l → Each
 each-limited k [] s f = tt
 each-limited k (j ∷ l) s f = (served-limited k j (s .0) (f .0 .0) (f .0 .1), each-limited k l (s .1) (f .1))
 
-module _ (k : Kinematics) (poses : List Float) (start : Start) (cone : Float) (numbers : ℕ) (l : List Joints) (solved : solvePath k poses start cone numbers ≡ Along l) (angles : Each AnglesFit l) where
+module _ (k : Kinematics) (poses : List Float) (start : Start) (cone : Float) (room : ℕ) (l : List Joints) (solved : solvePath k poses start cone room ≡ Along l) (angles : Each AnglesFit l) where
   pub path-limited : Each (Limited k) l
-  path-limited = each-limited k l (subst (OnPath (Served k)) solved (path-served k poses start cone numbers)) angles
-
-  module _ (item : ToolPose → Joints → Item) (holds : (q : ToolPose) (j : Joints) → item q j .joints ≡ j) (tol : Tolerances) (space : ℕ) where
-    pub path-priced : length (paired item (posesIn poses) l) ≤ space
-        → Price k (prepared k) tol space (paired item (posesIn poses) l) (halve (divides (prepared k) tol) (midpoint (prepared k)) space 10000 0 (paired item (posesIn poses) l))
-    path-priced room = priced (prepared k) tol k space (paired item (posesIn poses) l) room (paired-given item holds (Limited k) (posesIn poses) l path-limited)
+  path-limited = each-limited k l (subst (OnPath (Served k)) solved (path-served k poses start cone room)) angles
 
 -- ---- joint sets read from lent numbers, five for each
 module _ (d : Float) (get : List Float → Joints) (first : (l : List Float) → get l .a0 ≡ getD l 3 d) (second : (l : List Float) → get l .a1 ≡ getD l 4 d) where

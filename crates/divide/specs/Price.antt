@@ -1,26 +1,37 @@
--- What the price list states of a division: demand 3, sentence by sentence. The lists are of items, a pose with its joint set: `g` of the given ones, with the joints that they were solved to, `r` of the result. The tolerance test is
--- `segmentWithin` alone, never the rule that divides. What the halving needs is said of its steps without a cap.
-use Prim.Native.Nat.{ℕ, suc, _+_, _-_, _≤_, _<_}
+-- What the price list states of a division: demand 3, sentence by sentence. It speaks of the answer of a call and of the numbers in the two lent outputs afterwards; `g` are the given poses with the joints that they were solved to. The tolerance
+-- test is `segmentWithin` alone, never the rule that divides. What the halving needs is said of its steps without a cap.
+use Prim.Native.Nat.{ℕ, suc, _+_, _-_, _*_, _≤_, _<_}
 use mathlib.Core.Path.{_≡_}
 use mathlib.Core.Logic.{_⊎_, _↔_}
 use mathlib.Core.Bool.{true, false}
 use mathlib.Core.Option.{none}
 use mathlib.Core.List.{List, _∷_, _++_, Sublistᴰ, List·Memᴰ}
-use lib.ListN.{length}
+use lib.ListN.{length, drop, replicate}
 use lib.Ieee as Ieee
 use lib.Ieee.{Float}
-use Rattle.float.specs.Helpers.{sizeOf}
+use Rattle.float.specs.Helpers.{nought, sizeOf}
+use Rattle.lists.specs.Rows.{flat}
+use Rattle.refusal.specs.declared.Refusal.{Refusal}
 use Rattle.geometry.specs.Vector.{minus}
+use Rattle.chain.specs.declared.Checked.the-variants as Checked
 use Rattle.chain.specs.declared.Joints.{Joints}
 use Rattle.chain.specs.declared.Kinematics.{Kinematics}
 use Rattle.chain.specs.declared.Prepared.{Prepared}
+use Rattle.chain.specs.Prepared.{prepared}
+use Rattle.path.specs.declared.Start.{Start}
 use Rattle.path.specs.Unwinding.{inside}
 use Rattle.path.specs.Posing.{boundsOf}
-use Rattle.halving.specs.Halving.{Answer, Done, TooMany, NoSpace, step}
-use Rattle.halving.proofs.Steps.{Steps, Needs}
+use Rattle.path.specs.Solving.{Along, AtPose, Kept, jointNumbers, solvePath}
+use Rattle.halving.specs.Halving.{step, Steps, Needs}
+use Rattle.divide.specs.declared.Divided.the-variants.{Done, TooMany, NoSpace}
+use Rattle.divide.specs.declared.Division.{Division}
+use Rattle.divide.specs.declared.Division.the-variants.{Refused, Ended}
 use Rattle.divide.specs.declared.Item.{Item}
 use Rattle.divide.specs.declared.Tolerances.{Tolerances}
+use Rattle.divide.specs.Items.{itemsIn}
 use Rattle.divide.specs.Testing.{least, midpoint, segmentWithin, divides}
+use Rattle.divide.specs.Checking.{divisionCheck}
+use Rattle.divide.specs.Subdividing.{spaceIn, given, solvedPath}
 
 -- ---- at most 1e-12 apart: one number, and all five
 abbrev pub Close : Float → Float → Type 0
@@ -49,7 +60,7 @@ pub data Insertions (p : Prepared) (tol : Tolerances) : List Item → ℕ → Li
   one-more : {l m r : List Item} {n : ℕ} → Insertion p tol l m → Insertions p tol m n r → Insertions p tol l (suc n) r
 
 -- ---- nothing is refused: the result is r, and the reported count n
-pub record Divided (k : Kinematics) (p : Prepared) (tol : Tolerances) (g : List Item) (n : ℕ) (r : List Item) : Type 0 where
+pub record Result (k : Kinematics) (p : Prepared) (tol : Tolerances) (g : List Item) (n : ℕ) (r : List Item) : Type 0 where
   -- "the result is bit for bit what document 01's halving makes of the given poses and their solved joints": its steps lead from these to r,
   pub halved : Steps (divides p tol) (midpoint p) g n r
   -- and there is none that leads on
@@ -66,18 +77,59 @@ pub record Divided (k : Kinematics) (p : Prepared) (tol : Tolerances) (g : List 
   -- "The reported count is the number inserted"
   pub counted : length r ≡ length g + n
 
--- ---- a division of g into a space for so many poses, of which the checks before the first test pass
-pub record Price (k : Kinematics) (p : Prepared) (tol : Tolerances) (space : ℕ) (g : List Item) (answer : Answer Item) : Type 0 where
-  -- "if nothing is refused"
-  pub divided : (n : ℕ) (r : List Item) → answer ≡ Done n r → Divided k p tol g n r
+-- ---- +0.0 in the whole of both outputs, and behind so many poses
+abbrev pub AllZero : List Float → List Float → Type 0
+AllZero poses joints = (poses ≡ replicate (length poses) nought) × (joints ≡ replicate (length joints) nought)
+
+abbrev pub ZeroBehind : ℕ → List Float → List Float → Type 0
+ZeroBehind n poses joints = (drop (n * 6) poses ≡ replicate (length poses - n * 6) nought) × (drop (n * 5) joints ≡ replicate (length joints - n * 5) nought)
+
+-- "Where the checks before the first test pass": but for that of the space, which is said where it is meant
+abbrev pub Checks : Division → Type 0
+Checks (Refused r) = ⊥
+Checks (Ended d) = Unit {0}
+
+-- ---- the answer of a division of g into a space for so many poses, and the two lent outputs afterwards
+pub record Price (k : Kinematics) (tol : Tolerances) (space : ℕ) (g : List Item) (answer : Division) (poses joints : List Float) : Type 0 where
+  -- "if nothing is refused", the front of the outputs holds the result,
+  pub divided : (n : ℕ) → answer ≡ Ended (Done n) → Result k (prepared k) tol g n (itemsIn (length g + n) poses joints)
+  -- and the rest +0.0
+  pub unused : (n : ℕ) → answer ≡ Ended (Done n) → ZeroBehind (length g + n) poses joints
   -- "with space for 10,000 more poses, refusal for the count comes exactly when this halving needs a 10,001st"
-  pub many : length g + 10000 ≤ space → ((c : ℕ) × (answer ≡ TooMany c)) ↔ Needs (divides p tol) (midpoint p) 10001 g
+  pub many : Checks answer → length g + 10000 ≤ space → ((c : ℕ) × (answer ≡ Ended (TooMany c))) ↔ Needs (divides (prepared k) tol) (midpoint (prepared k)) 10001 g
   -- and none for space
-  pub never-full : length g + 10000 ≤ space → (c : ℕ) → answer ≡ NoSpace c → ⊥
+  pub never-full : length g + 10000 ≤ space → (c : ℕ) → answer ≡ Ended (NoSpace c) → ⊥
   -- "with less, refusal for space exactly when it needs more than there is"
-  pub full : space < length g + 10000 → ((c : ℕ) × (answer ≡ NoSpace c)) ↔ Needs (divides p tol) (midpoint p) (suc (space - length g)) g
+  pub full : Checks answer → length g ≤ space → space < length g + 10000
+      → ((c : ℕ) × (answer ≡ Ended (NoSpace c))) ↔ Needs (divides (prepared k) tol) (midpoint (prepared k)) (suc (space - length g)) g
   -- and none for the count
-  pub never-many : space < length g + 10000 → (c : ℕ) → answer ≡ TooMany c → ⊥
+  pub never-many : space < length g + 10000 → (c : ℕ) → answer ≡ Ended (TooMany c) → ⊥
+  -- space for fewer poses than given is refused before the first test
+  pub fewer : Checks answer → space < length g → answer ≡ Ended (NoSpace 0)
   -- the count so far, of each refusal
-  pub many-count : (c : ℕ) → answer ≡ TooMany c → c ≡ 10000
-  pub full-count : (c : ℕ) → answer ≡ NoSpace c → c ≡ space - length g
+  pub many-count : (c : ℕ) → answer ≡ Ended (TooMany c) → c ≡ 10000
+  pub full-count : length g ≤ space → (c : ℕ) → answer ≡ Ended (NoSpace c) → c ≡ space - length g
+  -- which leaves +0.0
+  pub many-zero : (c : ℕ) → answer ≡ Ended (TooMany c) → AllZero poses joints
+  pub full-zero : (c : ℕ) → answer ≡ Ended (NoSpace c) → AllZero poses joints
+
+-- ---- of joints that `solve_path` gives for this chain and these poses, whatever the start, the cone and the space that it had
+pub record IfSolved (k : Kinematics) (tol : Tolerances) (lent solved : List Float) (answer : Division) (poses joints : List Float) : Type 0 where
+  pub price : (start : Start) (cone : Float) (room : ℕ) (l : List Joints) → solvePath k lent start cone room ≡ Along l → solved ≡ flat jointNumbers l
+      → Price k tol (spaceIn (length poses) (length joints)) (given lent solved) answer poses joints
+
+-- ---- of the call of both: `lent` are the given poses, `poses₀` and `joints₀` the two outputs before
+pub record SolvedAndDivided (k : Kinematics) (lent : List Float) (start : Start) (cone : Float) (tol : Tolerances) (answer : Division) (poses₀ joints₀ poses joints : List Float) : Type 0 where
+  -- what keeps all in `solve_path` keeps all here
+  pub kept : (r : Refusal) → solvedPath k lent start cone (length poses₀) (length joints₀) ≡ Kept r → (answer ≡ Refused r) × ((poses ≡ poses₀) × (joints ≡ joints₀))
+  -- a refusal at a pose leaves +0.0
+  pub at-pose : (r : Refusal) → solvedPath k lent start cone (length poses₀) (length joints₀) ≡ AtPose r → (answer ≡ Refused r) × AllZero poses joints
+  -- and so does division's
+  pub refused : (l : List Joints) (r : Refusal) → solvedPath k lent start cone (length poses₀) (length joints₀) ≡ Along l
+      → divisionCheck k tol lent (flat jointNumbers l) (length poses₀) (length joints₀) ≡ Checked.Refused r → (answer ≡ Refused r) × AllZero poses joints
+  -- the checks before the first test pass
+  pub begun : (l : List Joints) → solvedPath k lent start cone (length poses₀) (length joints₀) ≡ Along l
+      → divisionCheck k tol lent (flat jointNumbers l) (length poses₀) (length joints₀) ≡ Checked.Passed → Checks answer
+  -- "For every path solved and then divided for one chain, whatever the start, cone, tolerances and space"
+  pub price : (l : List Joints) → solvedPath k lent start cone (length poses₀) (length joints₀) ≡ Along l
+      → Price k tol (spaceIn (length poses) (length joints)) (given lent (flat jointNumbers l)) answer poses joints

@@ -1,13 +1,19 @@
 // Division: poses put between the given ones until two tolerances hold at the middle of every two neighbours (subdivide_path of the Rust). The list is halved as document 01 says (crate halving); this crate has
 // the test, the midpoint, and the machine that does it in lent outputs.
+mod both;
+mod checking;
 mod dividing;
 mod items;
+mod subdividing;
 mod testing;
 mod turning;
 
+pub use both::solve_and_divide;
 use chain::Joints;
 use chain::ToolPose;
 use geometry::Vec3;
+use refusal::Refusal;
+pub use subdividing::subdivide_path;
 pub use testing::joints_unchanged;
 pub use testing::lerp_joints;
 pub use testing::midpoint;
@@ -55,4 +61,10 @@ pub enum Divided {
     Done(u64),
     TooMany(u64),
     NoSpace(u64),
+}
+
+// What a call that divides answers: a refusal before the first test, or how the division ended.
+pub enum Division {
+    Refused(Refusal),
+    Ended(Divided),
 }

@@ -10,9 +10,9 @@ use mathlib.Core.Bool.{Bool}
 use mathlib.Core.Option.{Option, none, some}
 use mathlib.Core.List.{List, Sublistᴰ}
 use lib.ListN.{length}
-use Rattle.halving.specs.Halving.{step, halve, Answer, Done, TooMany, NoSpace}
+use Rattle.halving.specs.Halving.{step, halve, Answer, Done, TooMany, NoSpace, Steps, here, more, Needs}
 use Rattle.halving.proofs.Step.{step-length, halve-done, halve-many, halve-more, halve-full}
-use Rattle.halving.proofs.Steps.{Kept, none-kept, Steps, here, more, Needs, steps-length, steps-more, steps-last, steps-sub, Woven, steps-woven}
+use Rattle.halving.proofs.Steps.{Kept, none-kept, steps-length, steps-more, steps-last, steps-sub, Woven, steps-woven}
 
 -- the answers are three: each tells what it holds, and none is another
 done-list : {A : Type 0} {b c : ℕ} {l r : List A} → Done b l ≡ Done c r → l ≡ r

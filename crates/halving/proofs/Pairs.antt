@@ -10,9 +10,9 @@ use mathlib.Core.Option.{none, some}
 use mathlib.Core.List.{List, [], _∷_, _++_, append-assoc, head-eq-of-cons-eq, nil≢cons}
 use mathlib.Core.List.{Sublistᴰ, Sublistᴰ·slnil, Sublistᴰ·cons}
 use lib.ListN.{length, length-append}
-use Rattle.halving.specs.Halving.{step}
+use Rattle.halving.specs.Halving.{step, Steps, here, more}
 use Rattle.halving.proofs.Step.{some-none, true-false, none-cases, some-cases, Some-cases, step-one, past-divides, past-keeps}
-use Rattle.halving.proofs.Steps.{Steps, here, more, steps-length, steps-then, sub-behind}
+use Rattle.halving.proofs.Steps.{steps-length, steps-then, sub-behind}
 
 module _ {A : Type 0} (divides : A → A → Bool) (mid : A → A → A) where
   -- between x and y, a is inserted

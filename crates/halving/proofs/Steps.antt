@@ -13,7 +13,7 @@ use mathlib.Core.List.{Sublistᴰ, Sublistᴰ·cons, Sublistᴰ·cons-cons, Subl
 use mathlib.Core.List.{List·Memᴰ, List·Memᴰ·head, List·Memᴰ·tail, List·Memᴰ·append-cases, List·Memᴰ·cases-cons, Memᴰ·append-left, Memᴰ·append-right}
 use lib.Seq.{append-snoc}
 use lib.ListN.{length}
-use Rattle.halving.specs.Halving.{onto, step}
+use Rattle.halving.specs.Halving.{onto, step, Steps, here, more, Needs}
 use Rattle.halving.proofs.Step.{some-none, none-cases, some-cases, Some-cases, step-keeps, step-length}
 
 some-one : {A : Type 0} {a b : A} → some a ≡ some b → a ≡ b
@@ -95,52 +95,44 @@ module _ {A : Type 0} (divides : A → A → Bool) (mid : A → A → A) where
       go (inl c) ih = record { front = []; left = x; right = y; back = l; was = refl; is = c .1; failed = c .0; first = kept-one x }
       go (inr c) ih = longer (c .1 .0) (c .0) (ih (c .1 .0) (c .1 .1)) (c .1 .2)
 
-  -- ---- j steps lead from l to r
-  pub data Steps : List A → ℕ → List A → Type 0 where
-    here : {l : List A} → Steps l 0 l
-    more : {l m r : List A} {j : ℕ} → step divides mid l ≡ some m → Steps m j r → Steps l (suc j) r
-
-  -- halving l needs a j-th insertion
-  abbrev pub Needs : ℕ → List A → Type 0
-  Needs j l = (r : List A) × Steps l j r
-
-  pub steps-length : {l r : List A} {j : ℕ} → Steps l j r → length r ≡ length l + j
+  -- ---- steps, one after another
+  pub steps-length : {l r : List A} {j : ℕ} → Steps divides mid l j r → length r ≡ length l + j
   steps-length here = omega arith
   steps-length (more {l = l} {m = m} h s) = let a = step-length divides mid l m h in let b = steps-length s in omega arith
 
   -- they lead to one list only
-  pub steps-one : {l r t : List A} {j : ℕ} → Steps l j r → Steps l j t → r ≡ t
+  pub steps-one : {l r t : List A} {j : ℕ} → Steps divides mid l j r → Steps divides mid l j t → r ≡ t
   steps-one here here = refl
   steps-one (more {m = m} {j = j} h s) (more {m = n} {r = t} k u) =
       let e : n ≡ m = some-one (sym k ∙ h) in
-      steps-one s (subst (λ (z : List A). Steps z j t) e u)
+      steps-one s (subst (λ (z : List A). Steps divides mid z j t) e u)
 
   -- a steps and then b steps are a + b steps, and a + b steps are a steps and then b steps
-  pub steps-then : {l m r : List A} {a b : ℕ} → Steps l a m → Steps m b r → Steps l (a + b) r
-  steps-then {l} {r = r} {b = b} here t = subst (λ (j : ℕ). Steps l j r) (sym (zero-add b)) t
-  steps-then {l} {r = r} {b = b} (more {j = a} h s) t = subst (λ (j : ℕ). Steps l j r) (sym (suc-add a b)) (more h (steps-then s t))
+  pub steps-then : {l m r : List A} {a b : ℕ} → Steps divides mid l a m → Steps divides mid m b r → Steps divides mid l (a + b) r
+  steps-then {l} {r = r} {b = b} here t = subst (λ (j : ℕ). Steps divides mid l j r) (sym (zero-add b)) t
+  steps-then {l} {r = r} {b = b} (more {j = a} h s) t = subst (λ (j : ℕ). Steps divides mid l j r) (sym (suc-add a b)) (more h (steps-then s t))
 
-  pub steps-apart : (a b : ℕ) {l r : List A} → Steps l (a + b) r → (m : List A) × (Steps l a m × Steps m b r)
-  steps-apart zero b {l} {r} s = (l, (here, subst (λ (j : ℕ). Steps l j r) (zero-add b) s))
-  steps-apart (suc a) b {l} {r} s = go (subst (λ (j : ℕ). Steps l j r) (suc-add a b) s) (λ u t. steps-apart a b t)
+  pub steps-apart : (a b : ℕ) {l r : List A} → Steps divides mid l (a + b) r → (m : List A) × (Steps divides mid l a m × Steps divides mid m b r)
+  steps-apart zero b {l} {r} s = (l, (here, subst (λ (j : ℕ). Steps divides mid l j r) (zero-add b) s))
+  steps-apart (suc a) b {l} {r} s = go (subst (λ (j : ℕ). Steps divides mid l j r) (suc-add a b) s) (λ u t. steps-apart a b t)
     where
-      go : Steps l (suc (a + b)) r → ((u : List A) → Steps u (a + b) r → (m : List A) × (Steps u a m × Steps m b r)) → (m : List A) × (Steps l (suc a) m × Steps m b r)
+      go : Steps divides mid l (suc (a + b)) r → ((u : List A) → Steps divides mid u (a + b) r → (m : List A) × (Steps divides mid u a m × Steps divides mid m b r)) → (m : List A) × (Steps divides mid l (suc a) m × Steps divides mid m b r)
       go (more h t) ih = let (m, q) = ih _ t in (m, (more h (q .0), q .1))
 
   -- one step more at the end, and the last step taken off
-  pub steps-more : {l r m : List A} {j : ℕ} → Steps l j r → step divides mid r ≡ some m → Steps l (suc j) m
-  steps-more {l} {m = m} {j = j} s e = subst (λ (i : ℕ). Steps l i m) (add-one j) (steps-then s (more e here))
+  pub steps-more : {l r m : List A} {j : ℕ} → Steps divides mid l j r → step divides mid r ≡ some m → Steps divides mid l (suc j) m
+  steps-more {l} {m = m} {j = j} s e = subst (λ (i : ℕ). Steps divides mid l i m) (add-one j) (steps-then s (more e here))
 
-  pub steps-last : (j : ℕ) {l m : List A} → Steps l (suc j) m → (r : List A) × (Steps l j r × (step divides mid r ≡ some m))
-  steps-last j {l} {m} s = go (steps-apart j 1 (subst (λ (i : ℕ). Steps l i m) (sym (add-one j)) s))
+  pub steps-last : (j : ℕ) {l m : List A} → Steps divides mid l (suc j) m → (r : List A) × (Steps divides mid l j r × (step divides mid r ≡ some m))
+  steps-last j {l} {m} s = go (steps-apart j 1 (subst (λ (i : ℕ). Steps divides mid l i m) (sym (add-one j)) s))
     where
-      go : (r : List A) × (Steps l j r × Steps r 1 m) → (r : List A) × (Steps l j r × (step divides mid r ≡ some m))
+      go : (r : List A) × (Steps divides mid l j r × Steps divides mid r 1 m) → (r : List A) × (Steps divides mid l j r × (step divides mid r ≡ some m))
       go (r, (t, more e here)) = (r, (t, e))
 
-  pub needs-less : {i j : ℕ} {l : List A} → i ≤ j → Needs j l → Needs i l
+  pub needs-less : {i j : ℕ} {l : List A} → i ≤ j → Needs divides mid j l → Needs divides mid i l
   needs-less {i} {j} {l} h (r, s) =
       let e : j ≡ i + (j - i) = omega arith in
-      let (m, q) = steps-apart i (j - i) (subst (λ (z : ℕ). Steps l z r) e s) in
+      let (m, q) = steps-apart i (j - i) (subst (λ (z : ℕ). Steps divides mid l z r) e s) in
       (m, q .0)
 
   -- ---- the given items stand in the result, in order
@@ -151,7 +143,7 @@ module _ {A : Type 0} (divides : A → A → Bool) (mid : A → A → A) where
       (subst (λ (z : List A). Sublistᴰ z (d .front ++ d .left ∷ mid (d .left) (d .right) ∷ d .right ∷ d .back)) (sym (d .was))
       (sub-behind (d .front) (Sublistᴰ·cons-cons refl (Sublistᴰ·cons (Sublistᴰ·refl (d .right ∷ d .back))))))
 
-  pub steps-sub : {l r : List A} {j : ℕ} → Steps l j r → Sublistᴰ l r
+  pub steps-sub : {l r : List A} {j : ℕ} → Steps divides mid l j r → Sublistᴰ l r
   steps-sub {l} here = Sublistᴰ·refl l
   steps-sub (more {l = l} {m = m} h s) = Sublistᴰ·trans (step-sub l m h) (steps-sub s)
 
@@ -175,7 +167,7 @@ module _ {A : Type 0} (divides : A → A → Bool) (mid : A → A → A) where
       subst (λ (z : A). Woven (z ∷ (p ++ q)) (suc j) (a ∷ r)) (head-eq-of-cons-eq e) (w-given (woven-more s p x y q (tail-eq-of-cons-eq e) h))
   woven-more (w-between k s) p x y q e h = w-between k (woven-more s p x y q e h)
 
-  pub steps-woven : {l r : List A} {j : ℕ} → Steps l j r → Woven l j r
+  pub steps-woven : {l r : List A} {j : ℕ} → Steps divides mid l j r → Woven l j r
   steps-woven {l} here = woven-self l
   steps-woven (more {l = l} {m = m} {r = r} {j = j} h s) =
       let d = step-division l m h in
@@ -212,6 +204,6 @@ module _ {A : Type 0} (divides : A → A → Bool) (mid : A → A → A) where
             at-left (inl e) = in-rest (List·Memᴰ·head e)
             at-left (inr v) = at-mid (List·Memᴰ·cases-cons v)
 
-    pub steps-all : {l r : List A} {j : ℕ} → Steps l j r → ((x : A) → List·Memᴰ x l → P x) → (x : A) → List·Memᴰ x r → P x
+    pub steps-all : {l r : List A} {j : ℕ} → Steps divides mid l j r → ((x : A) → List·Memᴰ x l → P x) → (x : A) → List·Memᴰ x r → P x
     steps-all here h x m = h x m
     steps-all (more {l = l} {m = t} e s) h x m = steps-all s (division-all l t (step-division l t e) h) x m

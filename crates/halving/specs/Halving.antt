@@ -2,6 +2,7 @@
 -- repeats until there are none. Over any item, any test `divides` and any midpoint `mid`: what an item is, when two of them
 -- divide and what lies between them is for the caller to say.
 use Prim.Native.Nat.{ℕ, zero, suc}
+use mathlib.Core.Path.{_≡_}
 use mathlib.Core.Bool.{Bool, true, false}
 use mathlib.Core.Option.{Option, none, some}
 use mathlib.Core.List.{List, [], _∷_}
@@ -42,3 +43,12 @@ module _ {A : Type 0} (divides : A → A → Bool) (mid : A → A → A) where
   halve space zero n l = elim (step l) [ none ↦ Done n l | some m ↦ TooMany n ]
   halve space (suc left) n l =
       elim (step l) [ none ↦ Done n l | some m ↦ elim (leb (length m) space) [ true ↦ halve space left (suc n) m | false ↦ NoSpace n ] ]
+
+  -- ---- without a cap and for any space: j steps lead from l to r
+  pub data Steps : List A → ℕ → List A → Type 0 where
+    here : {l : List A} → Steps l 0 l
+    more : {l m r : List A} {j : ℕ} → step l ≡ some m → Steps m j r → Steps l (suc j) r
+
+  -- halving l needs a j-th insertion
+  abbrev pub Needs : ℕ → List A → Type 0
+  Needs j l = (r : List A) × Steps l j r

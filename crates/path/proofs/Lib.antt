@@ -1,3 +1,4 @@
 pub mod Walking
 pub mod Room
 pub mod Promises
+pub mod Along

@@ -39,7 +39,7 @@ use Rattle.path.specs.Singular.{singularFrame, inSingularCone, nearestPo
 use Rattle.path.specs.Locking.{refused, withinLimits, finitePosition, placedAt, lockedJoints, strays, limited, unlessStraying, coneSolution}
 use Rattle.path.specs.Exact.{reachedBy, candidate, anglesOf, secondCandidate, positionFinite, unwound, ranked, ranksBefore, closestOrOther, ofRanked, alone, both, ofCandidates, ofPositions, exactPose}
 use Rattle.path.specs.Posing.{boundsOf, setUp, byFrame, solveOne, turnedWithin, withTurns, solvedTip, solvedPose, atPose, poseAnswer}
-use Rattle.path.specs.Solving.{PathAnswer, Along, AtPose, Kept, thenOn, withPose, solvePoses, startAngles, posesIn, solveCheck, unlessKept, solvePath}
+use Rattle.path.specs.Solving.{PathAnswer, Along, AtPose, Kept, thenOn, withPose, solvePoses, startAngles, posesIn, solveCheck, unlessKept, solveChecked, solvePath}
 use Rattle.path.specs.Promise.{Served, OnPath}
 use Rattle.path.specs.declared.Bounds.{Bounds}
 use Rattle.path.specs.declared.Candidate.{Candidate}
@@ -305,7 +305,7 @@ kept-served P Checked.Passed a h = h
 kept-served P (Checked.Refused r) a h = tt
 
 pub path-served : (k : Kinematics) (poses : List Float) (start : Start) (cone : Float) (room : ℕ) → OnPath (Served k) (solvePath k poses start cone room)
-unfolding solvePath
+unfolding solvePath solveChecked
 path-served k poses start cone room =
     kept-served (Served k) (solveCheck k start cone (length poses) room) _
     (poses-hold (Served k) (setUp k cone) (pose-served k cone) (posesIn poses) (startAngles start) 0)

@@ -113,10 +113,13 @@ abbrev pub unlessKept : Checked → PathAnswer → PathAnswer
 unlessKept Checked.Passed answer = answer
 unlessKept (Checked.Refused r) answer = Kept r
 
+unfoldable pub solveChecked : Kinematics → List Float → Start → Float → PathAnswer
+solveChecked k poses start cone = solvePoses (setUp k cone) (startAngles start) 0 (posesIn poses)
+
 -- `room` is how many numbers the lent output has
 unfoldable pub solvePath : Kinematics → List Float → Start → Float → ℕ → PathAnswer
 solvePath k poses start cone room =
-    unlessKept (solveCheck k start cone (length poses) room) (solvePoses (setUp k cone) (startAngles start) 0 (posesIn poses))
+    unlessKept (solveCheck k start cone (length poses) room) (solveChecked k poses start cone)
 
 abbrev pub checkedIn : PathAnswer → Checked
 checkedIn (Along l) = Checked.Passed

@@ -19,6 +19,8 @@ pub use solving::cone_good;
 pub use solving::path_chain;
 pub use solving::pose_in;
 pub use solving::put_joints;
+pub use solving::solve_check;
+pub use solving::solve_checked;
 pub use solving::solve_path;
 pub use solving::whole_records;
 pub use unwinding::inside;

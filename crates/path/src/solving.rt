@@ -129,7 +129,7 @@ fn path_sizes(k: Kinematics, start: Start, count: usize) -> bool
     false
 }
 
-fn solve_check(k: Kinematics, start: Start, cone: f64, numbers: usize, room: usize) -> Checked
+pub fn solve_check(k: Kinematics, start: Start, cone: f64, numbers: usize, room: usize) -> Checked
     ensures { λ r. ⌜ r ≡ S.solveCheck k start cone numbers room ⌝ }
 {
     let records = demand(whole_records(numbers, room), refusal::LENGTHS_DIFFER, 0);
@@ -175,6 +175,23 @@ fn solve_poses(s: Setup, start: Angles, poses: &[f64], out: &mut [f64]) -> Check
     Checked::Passed
 }
 
+// Of a chain, a start and a cone that are checked, with space for every pose.
+pub fn solve_checked(
+    k: Kinematics,
+    poses: &[f64],
+    start: Start,
+    cone: f64,
+    out: &mut [f64],
+) -> Checked
+    requires { ⌜ length (now poses) / 6 * 5 ≤ length (now out) ⌝ }
+    ensures checked { λ r. ⌜ r ≡ S.checkedIn (S.solveChecked k (now (poses .entry)) start cone) ⌝ }
+    ensures lent { λ r. ⌜ now (out .exit) ≡ S.pathOver (S.solveChecked k (now (poses .entry)) start cone) (now (out .entry)) ⌝ }
+{
+    let s = set_up(k, cone);
+    let angles = start_angles(start);
+    solve_poses(s, angles, poses, out)
+}
+
 // The joints of every pose, or the first refusal.
 pub fn solve_path(k: Kinematics, poses: &[f64], start: Start, cone: f64, out: &mut [f64]) -> Checked
     ensures checked { λ r. ⌜ r ≡ S.checkedIn (S.solvePath k (now (poses .entry)) start cone (length (now (out .entry)))) ⌝ }
@@ -185,7 +202,5 @@ pub fn solve_path(k: Kinematics, poses: &[f64], start: Start, cone: f64, out: &m
     if let Checked::Refused(_r) = checked {
         return checked;
     }
-    let s = set_up(k, cone);
-    let angles = start_angles(start);
-    solve_poses(s, angles, poses, out)
+    solve_checked(k, poses, start, cone, out)
 }

@@ -22,15 +22,8 @@ returns c =
 enum-told : tie.Need-enum-told
 enum-told c = search needs
 
-set-up-requires : tie.Need-set-up-requires
-set-up-requires c κs = search needs
-
-start-angles-requires : tie.Need-start-angles-requires
-start-angles-requires c κs = search needs
-
-solve-poses-requires : tie.Need-solve-poses-requires
-solve-poses-requires c κs =
-    room-passed _ _ _ _ _ (rw (c .before .before .before .before .before .solve-check .ensures) at (c .before .before .before .enum-told .given .1))
+solve-checked-requires : tie.Need-solve-checked-requires
+solve-checked-requires c κs = room-passed _ _ _ _ _ (rw (c .before .before .before .solve-check .ensures) at (c .before .enum-told .given .1))
 
 same-length : tie.Need-same-length
 same-length c = search needs
@@ -38,10 +31,10 @@ same-length c = search needs
 returns-2 : tie.Need-returns-2
 unfolding solvePath
 returns-2 c =
-    let e = rw (c .before .before .before .before .before .before .before .before .solve-check .ensures) at (c .before .before .before .before .before .before .enum-told .given .1) in
-    let f = rw (c .before .before .before .before .start-angles .ensures, c .before .before .before .before .before .set-up .ensures) at (c .before .before .solve-poses .ensures) in
-    let given = c .before .before .before .before .before .before .before .before .before .before .before .args in
+    let e = rw (c .before .before .before .before .before .before .solve-check .ensures) at (c .before .before .before .before .enum-told .given .1) in
+    let f = c .before .before .solve-checked .ensures in
+    let given = c .before .before .before .before .before .before .before .before .before .args in
     (rw e (f .0), (rw e (f .1), path-served (given .k) (given .poses .now) (given .start) (given .cone) (length (given .out .now))))
 
 pub solve-path-spec : {M : Type 1} → statement M
-solve-path-spec = tie.close (tie.spec solve-check-requires enum-known-checked returns enum-told set-up-requires start-angles-requires solve-poses-requires same-length returns-2)
+solve-path-spec = tie.close (tie.spec solve-check-requires enum-known-checked returns enum-told solve-checked-requires same-length returns-2)
