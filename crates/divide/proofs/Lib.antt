@@ -11,3 +11,9 @@ pub mod PriceGap
 pub mod PriceSound
 pub mod Price
 pub mod PricePath
+pub mod PriceLent
+pub mod Scanning
+pub mod Space
+pub mod Checks
+pub mod Idle
+pub mod Subdivides

@@ -29,8 +29,8 @@ unfoldable pub allFinite : List Float → List Float → Bool
 allFinite poses joints = all finite poses && all finite joints
 
 -- a number that was read is a float of 64 bits: of the first n
-abbrev pub FitUpTo : ℕ → List Float → Type 0
-FitUpTo n l = (i : ℕ) → i < n → T (fits binary64 (getD l i nan))
+pub record FitUpTo (n : ℕ) (l : List Float) : Type 0 where
+  pub fit : (i : ℕ) → i < n → T (fits binary64 (getD l i nan))
 
 -- ---- the sizes: pivots and tips, positions and angles, and the count. A pose's axis has none.
 unfoldable pub tipWithin : ToolPose → Bool

@@ -114,9 +114,9 @@ pub record Price (k : Kinematics) (tol : Tolerances) (space : ℕ) (g : List Ite
   pub full-zero : (c : ℕ) → answer ≡ Ended (NoSpace c) → AllZero poses joints
 
 -- ---- of joints that `solve_path` gives for this chain and these poses, whatever the start, the cone and the space that it had
-pub record IfSolved (k : Kinematics) (tol : Tolerances) (lent solved : List Float) (answer : Division) (poses joints : List Float) : Type 0 where
+pub record IfSolved (k : Kinematics) (tol : Tolerances) (lent solved : List Float) (roomPoses roomJoints : ℕ) (answer : Division) (poses joints : List Float) : Type 0 where
   pub price : (start : Start) (cone : Float) (room : ℕ) (l : List Joints) → solvePath k lent start cone room ≡ Along l → solved ≡ flat jointNumbers l
-      → Price k tol (spaceIn (length poses) (length joints)) (given lent solved) answer poses joints
+      → Price k tol (spaceIn roomPoses roomJoints) (given lent solved) answer poses joints
 
 -- ---- of the call of both: `lent` are the given poses, `poses₀` and `joints₀` the two outputs before
 pub record SolvedAndDivided (k : Kinematics) (lent : List Float) (start : Start) (cone : Float) (tol : Tolerances) (answer : Division) (poses₀ joints₀ poses joints : List Float) : Type 0 where
@@ -132,4 +132,4 @@ pub record SolvedAndDivided (k : Kinematics) (lent : List Float) (start : Start)
       → divisionCheck k tol lent (flat jointNumbers l) (length poses₀) (length joints₀) ≡ Checked.Passed → Checks answer
   -- "For every path solved and then divided for one chain, whatever the start, cone, tolerances and space"
   pub price : (l : List Joints) → solvedPath k lent start cone (length poses₀) (length joints₀) ≡ Along l
-      → Price k tol (spaceIn (length poses) (length joints)) (given lent (flat jointNumbers l)) answer poses joints
+      → Price k tol (spaceIn (length poses₀) (length joints₀)) (given lent (flat jointNumbers l)) answer poses joints

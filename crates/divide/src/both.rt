@@ -56,7 +56,7 @@ fn divide_found(
     ensures answer { λ r. ⌜ r ≡ S.divisionIn (S.foundIn k tol (now (given .entry)) (length (now (poses .entry))) (now (joints .entry))) ⌝ }
     ensures poses { λ r. ⌜ now (poses .exit) ≡ S.posesLeft (S.foundIn k tol (now (given .entry)) (length (now (poses .entry))) (now (joints .entry))) (now (poses .entry)) ⌝ }
     ensures joints { λ r. ⌜ now (joints .exit) ≡ S.jointsLeft (S.foundIn k tol (now (given .entry)) (length (now (poses .entry))) (now (joints .entry))) (now (joints .entry)) ⌝ }
-    ensures price { λ r. ⌜ IfSolved k tol (now (given .entry)) (take (length (now (given .entry)) / 6 * 5) (now (joints .entry))) r (now (poses .exit)) (now (joints .exit)) ⌝ }
+    ensures price { λ r. ⌜ IfSolved k tol (now (given .entry)) (take (length (now (given .entry)) / 6 * 5) (now (joints .entry))) (length (now (poses .entry))) (length (now (joints .entry))) r (now (poses .exit)) (now (joints .exit)) ⌝ }
 {
     let numbers = given.len() / 6 * 5;
     let checked = division_check(k, tol, given, joints, numbers, poses.len(), joints.len());

@@ -110,7 +110,7 @@ pub fn subdivide_path(
     ensures answer { λ r. ⌜ r ≡ S.divisionIn (S.subdividePath k tol (now (given .entry)) (now (solved .entry)) (length (now (poses .entry))) (length (now (joints .entry)))) ⌝ }
     ensures poses { λ r. ⌜ now (poses .exit) ≡ S.posesLeft (S.subdividePath k tol (now (given .entry)) (now (solved .entry)) (length (now (poses .entry))) (length (now (joints .entry)))) (now (poses .entry)) ⌝ }
     ensures joints { λ r. ⌜ now (joints .exit) ≡ S.jointsLeft (S.subdividePath k tol (now (given .entry)) (now (solved .entry)) (length (now (poses .entry))) (length (now (joints .entry)))) (now (joints .entry)) ⌝ }
-    ensures price { λ r. ⌜ IfSolved k tol (now (given .entry)) (now (solved .entry)) r (now (poses .exit)) (now (joints .exit)) ⌝ }
+    ensures price { λ r. ⌜ IfSolved k tol (now (given .entry)) (now (solved .entry)) (length (now (poses .entry))) (length (now (joints .entry))) r (now (poses .exit)) (now (joints .exit)) ⌝ }
 {
     let checked = division_check(
         k,
