@@ -17,3 +17,4 @@ pub mod Space
 pub mod Checks
 pub mod Idle
 pub mod Subdivides
+pub mod BothCalls

@@ -107,7 +107,7 @@ behind a n l e =
     subst (λ (k : ℕ). drop k (l ++ replicate (a - length l) nought) ≡ replicate (length (l ++ replicate (a - length l) nought) - n) nought) e
     (drop-append-seam l (replicate (a - length l) nought) ∙ ap (λ (k : ℕ). replicate k nought) same)
 
-zero-all : (a : ℕ) (out : List Float) → out ≡ replicate a nought → out ≡ replicate (length out) nought
+pub zero-all : (a : ℕ) (out : List Float) → out ≡ replicate a nought → out ≡ replicate (length out) nought
 zero-all a out e = e ∙ ap (λ (k : ℕ). replicate k nought) (sym (ap length e ∙ length-replicate a nought))
 
 -- ---- a division that was begun
