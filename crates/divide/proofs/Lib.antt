@@ -11,3 +11,4 @@ pub mod PriceGap
 pub mod PriceSound
 pub mod Price
 pub mod PricePath
+pub mod Pairs

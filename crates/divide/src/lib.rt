@@ -1,6 +1,7 @@
 // Division: poses put between the given ones until two tolerances hold at the middle of every two neighbours (subdivide_path of the Rust). The list is halved as document 01 says (crate halving); this crate has
 // the test, the midpoint, and the machine that does it in lent outputs.
 mod dividing;
+mod filling;
 mod items;
 mod testing;
 mod turning;

@@ -1,0 +1,15 @@
+use borrow.Author.Tests.{le-leb, lt-leb}
+use Rattle.divide.specs.Filling.{spaceIn}
+use Rattle.divide.proofs.filling.space_in.Statement.{statement}
+use Rattle.divide.proofs.filling.space_in.Tie as tie
+
+returns : tie.Need-returns
+unfolding spaceIn
+returns c = rw (le-leb _ _ (c .if1 .taken))
+
+returns-2 : tie.Need-returns-2
+unfolding spaceIn
+returns-2 c = rw (lt-leb _ _ (c .if1 .left))
+
+pub space-in-spec : {M : Type 1} → statement M
+space-in-spec = tie.close (tie.spec returns returns-2)
