@@ -9,14 +9,14 @@ use lib.Dec.{leb}
 use lib.ListN.{length, set}
 use lib.Ieee.{Float}
 use borrow.Author.Tests.{leb-true, leb-false}
-use Rattle.halving.specs.Halving.{step, Done, TooMany}
+use Rattle.halving.specs.Halving.{step, Answer, Done, TooMany, NoSpace, count}
 use Rattle.halving.proofs.Step.{halve-done, halve-many}
 use Rattle.chain.specs.declared.Prepared.{Prepared}
 use Rattle.divide.specs.Items.{itemsIn, posesWith, jointsWith}
 use Rattle.divide.specs.Testing.{divides, midpoint}
 use Rattle.divide.specs.Turning.{most}
 use Rattle.divide.specs.Dividing.{divisionAfter, dividedIn, posesOver, jointsOver}
-use Rattle.divide.specs.Filling.{spaceIn, pairHalved, counted, recounted}
+use Rattle.divide.specs.Filling.{spaceIn, pairHalved, counted, recounted, countIn}
 use Rattle.divide.specs.declared.Divided.{Divided}
 use Rattle.divide.specs.declared.Item.{Item}
 use Rattle.divide.specs.declared.Tolerances.{Tolerances}
@@ -116,3 +116,12 @@ pair-filled p tol space had left right poses joints {o₂ = o₂} {q₂ = q₂} 
         w .1 .1 ∙ joints-by-length (divisionAfter (counted had) p tol space pair) joints q₂ v ∙ t .1 .1 joints,
       ),
     )
+
+-- ---- the count that is kept
+count-in : (answer : Answer Item) → countIn (dividedIn answer) ≡ count answer
+count-in (Done n l) = refl
+count-in (TooMany n) = refl
+count-in (NoSpace n) = refl
+
+pub count-so : (answer : Answer Item) {said : Divided} {n : ℕ} → said ≡ dividedIn answer → n ≡ countIn said → n ≡ count answer
+count-so answer e f = f ∙ ap countIn e ∙ count-in answer

@@ -5,13 +5,14 @@ use mathlib.Core.List.{List, [], _∷_}
 use lib.Dec.{leb, ltb}
 use lib.ListN.{length}
 use lib.Ieee.{Float}
-use Rattle.halving.specs.Halving.{Answer, NoSpace}
+use Rattle.halving.specs.Halving.{Answer, NoSpace, count}
 use Rattle.chain.specs.declared.Prepared.{Prepared}
 use Rattle.divide.specs.Turning.{most}
 use Rattle.divide.specs.Dividing.{divisionAfter}
 use Rattle.divide.specs.declared.Divided.{Divided}
 use Rattle.divide.specs.declared.Divided.the-variants as Divided
 use Rattle.divide.specs.declared.Item.{Item}
+use Rattle.divide.specs.declared.Subdiv.{Subdiv}
 use Rattle.divide.specs.declared.Tolerances.{Tolerances}
 
 -- the space of two outputs of so many numbers, in poses
@@ -39,3 +40,15 @@ withCount had (Divided.NoSpace n) = Divided.NoSpace had
 
 unfoldable pub recounted : ℕ → Divided → Divided
 recounted had said = cond (leb had most) said (withCount had said)
+
+-- ---- the lent record: the count is kept, on refusals the count so far, and the tolerances stay
+abbrev pub countIn : Divided → ℕ
+countIn (Divided.Done n) = n
+countIn (Divided.TooMany n) = n
+countIn (Divided.NoSpace n) = n
+
+abbrev pub filling : Subdiv → Prepared → Item → Item → List Float → List Float → Answer Item
+filling job p left right poses joints = filled p (job .inserted) (job .chord) (job .axis) left right poses joints
+
+abbrev pub after : Subdiv → Answer Item → Subdiv
+after job answer = record { inserted = count answer; chord = job .chord; axis = job .axis }

@@ -7,6 +7,7 @@ ghost use Rattle.divide.specs.Dividing.{dividedIn, posesOver, jointsOver
 ghost use Rattle.divide.specs.Filling as S;
 use crate::Divided;
 use crate::Item;
+use crate::Subdiv;
 use crate::Tolerances;
 use crate::dividing::divide_after;
 use crate::items::put_item;
@@ -104,4 +105,42 @@ pub fn fill_pair(
     }
     let tol = Tolerances { chord, axis };
     fill_space(p, tol, space, had, left, right, poses, joints)
+}
+
+fn count_in(said: Divided) -> u64
+    ensures { λ r. ⌜ r ≡ S.countIn said ⌝ }
+{
+    match said {
+        Divided::Done(n) => n,
+        Divided::TooMany(n) => n,
+        Divided::NoSpace(n) => n,
+    }
+}
+
+// The same over a lent record, which keeps the count.
+pub fn fill(
+    job: &mut Subdiv,
+    p: Prepared,
+    left: Item,
+    right: Item,
+    poses: &mut [f64],
+    joints: &mut [f64],
+) -> Divided
+    ensures answer { λ r. ⌜ r ≡ dividedIn (S.filling (now (job .entry)) p left right (now (poses .entry)) (now (joints .entry))) ⌝ }
+    ensures job { λ r. ⌜ now (job .exit) ≡ S.after (now (job .entry)) (S.filling (now (job .entry)) p left right (now (poses .entry)) (now (joints .entry))) ⌝ }
+    ensures poses { λ r. ⌜ now (poses .exit) ≡ posesOver (S.filling (now (job .entry)) p left right (now (poses .entry)) (now (joints .entry))) (now (poses .entry)) ⌝ }
+    ensures joints { λ r. ⌜ now (joints .exit) ≡ jointsOver (S.filling (now (job .entry)) p left right (now (poses .entry)) (now (joints .entry))) (now (joints .entry)) ⌝ }
+{
+    let said = fill_pair(
+        p,
+        job.inserted,
+        job.chord,
+        job.axis,
+        left,
+        right,
+        poses,
+        joints,
+    );
+    job.inserted = count_in(said);
+    said
 }

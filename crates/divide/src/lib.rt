@@ -8,6 +8,8 @@ mod turning;
 
 use chain::Joints;
 use chain::ToolPose;
+pub use filling::fill;
+pub use filling::fill_pair;
 use geometry::Vec3;
 pub use testing::joints_unchanged;
 pub use testing::lerp_joints;
@@ -56,4 +58,11 @@ pub enum Divided {
     Done(u64),
     TooMany(u64),
     NoSpace(u64),
+}
+
+// What the pairs of one path share: the poses inserted so far, and the tolerances (Subdiv of the Rust).
+pub struct Subdiv {
+    pub inserted: u64,
+    pub chord: f64,
+    pub axis: f64,
 }
