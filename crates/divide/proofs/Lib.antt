@@ -12,3 +12,4 @@ pub mod PriceSound
 pub mod Price
 pub mod PricePath
 pub mod Pairs
+pub mod Examples

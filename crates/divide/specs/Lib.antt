@@ -1,7 +1,8 @@
--- `Testing`: the tolerance test, the midpoint, and when two neighbours are divided. `Items`: poses with their joint sets in lent numbers. `Turning`: one turn of the machine that divides in them. `Dividing`: the division, and what it leaves. `Filling`: one pair divided after others. `Price`: what the price list states of a division.
+-- `Testing`: the tolerance test, the midpoint, and when two neighbours are divided. `Items`: poses with their joint sets in lent numbers. `Turning`: one turn of the machine that divides in them. `Dividing`: the division, and what it leaves. `Filling`: one pair divided after others. `Price`: what the price list states of a division. `Examples`: the worked examples, in one table.
 pub mod Testing
 pub mod Items
 pub mod Turning
 pub mod Dividing
 pub mod Filling
 pub mod Price
+pub mod Examples
