@@ -11,9 +11,8 @@ use crate::Subdiv;
 use crate::Tolerances;
 use crate::dividing::divide_after;
 use crate::items::put_item;
+use crate::turning::MOST;
 use chain::Prepared;
-
-const MOST: u64 = 10000;
 
 // How many poses two outputs have space for: the smaller of the two.
 fn space_in(poses: &[f64], joints: &[f64]) -> usize
@@ -27,7 +26,7 @@ fn space_in(poses: &[f64], joints: &[f64]) -> usize
     of_joints
 }
 
-// What the machine counts from: it takes no number past the last one.
+// Where the machine's count starts: it knows none past 10,000.
 fn counted(had: u64) -> u64
     ensures { λ r. ⌜ r ≡ S.counted had ⌝ }
 {
@@ -37,7 +36,7 @@ fn counted(had: u64) -> u64
     MOST
 }
 
-// Past it nothing was inserted, and the count is what it was.
+// Past 10,000 nothing is inserted, and the count stays what it was.
 fn recounted(had: u64, said: Divided) -> Divided
     ensures { λ r. ⌜ r ≡ S.recounted had said ⌝ }
 {
@@ -117,7 +116,7 @@ fn count_in(said: Divided) -> u64
     }
 }
 
-// The same over a lent record, which keeps the count.
+// The same over a lent record, which keeps the count, on refusals too.
 pub fn fill(
     job: &mut Subdiv,
     p: Prepared,

@@ -11,19 +11,19 @@ returns c = rw (le-leb _ _ (c .if1 .taken))
 enum-told : tie.Need-enum-told
 enum-told c = search needs
 
+enum-told-2 : tie.Need-enum-told-2
+enum-told-2 c = search needs
+
+enum-told-3 : tie.Need-enum-told-3
+enum-told-3 c = search needs
+
 returns-2 : tie.Need-returns-2
 unfolding recounted
 returns-2 c = rw (lt-leb _ _ (c .before .before .if1 .left), c .enum-told .given .1)
 
-enum-told-2 : tie.Need-enum-told-2
-enum-told-2 c = search needs
-
 returns-3 : tie.Need-returns-3
 unfolding recounted
 returns-3 c = rw (lt-leb _ _ (c .before .before .if1 .left), c .enum-told2 .given .1)
-
-enum-told-3 : tie.Need-enum-told-3
-enum-told-3 c = search needs
 
 returns-4 : tie.Need-returns-4
 unfolding recounted
