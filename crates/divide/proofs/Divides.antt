@@ -19,7 +19,7 @@ use Rattle.path.specs.Solving.{jointNumbers}
 use Rattle.divide.specs.Items.{poseNumbers, item, itemsIn}
 use Rattle.divide.specs.Testing.{divides, midpoint}
 use Rattle.divide.specs.Turning.{most, axisAt, endAtStart, begun}
-use Rattle.divide.specs.Dividing.{division, dividedIn, posesOver, jointsOver, absent, reached, Ready, halvedFrom, RanTo, Ran, staying, answerIn}
+use Rattle.divide.specs.Dividing.{divisionAfter, dividedIn, posesOver, jointsOver, absent, reached, Ready, halvedFrom, RanTo, Ran, staying, answerIn}
 use Rattle.divide.specs.declared.Divided.{Divided}
 use Rattle.divide.specs.declared.Item.{Item}
 use Rattle.divide.specs.declared.Machine.{Machine}
@@ -41,10 +41,10 @@ staying-fits {answer} {space} {poses} {joints} {r} h a b =
     (omega arith, omega arith)
 
 -- ---- the start
-module _ (p : Prepared) (tol : Tolerances) (space count : ℕ) (poses₀ joints₀ poses joints : List Float) (some : 0 < count) (fits : count ≤ space)
+module _ (p : Prepared) (tol : Tolerances) (space count had : ℕ) (poses₀ joints₀ poses joints : List Float) (few : had ≤ most) (some : 0 < count) (fits : count ≤ space)
     (first : take 1 (itemsIn space poses joints) ≡ take 1 (itemsIn count poses₀ joints₀))
     (rest : drop (space - count + 1) (itemsIn space poses joints) ≡ drop 1 (itemsIn count poses₀ joints₀)) where
-  begun-state : State (divides p tol) (midpoint p) space most (itemsIn count poses₀ joints₀) 0 (itemsIn space poses joints) 1 (space - count + 1) 0
+  begun-state : State (divides p tol) (midpoint p) space most (itemsIn count poses₀ joints₀) had (itemsIn space poses joints) 1 (space - count + 1) had
   begun-state =
       let l = items-length count poses₀ joints₀ in
       let o = itemsIn space poses joints in
@@ -54,8 +54,8 @@ module _ (p : Prepared) (tol : Tolerances) (space count : ℕ) (poses₀ joints�
       let a : 0 < length g = rw l some in
       let b : length g ≤ space = rw l fits in
       let r : drop (space - length g + 1) o ≡ drop 1 g = rw l rest in
-      subst (λ (n : ℕ). State (divides p tol) (midpoint p) space most g 0 o 1 (space - n + 1) 0) l
-      (start-placed absent (items-length space poses joints) a b (omega arith) at-front r)
+      subst (λ (n : ℕ). State (divides p tol) (midpoint p) space most g had o 1 (space - n + 1) had) l
+      (start-placed absent (items-length space poses joints) a b few at-front r)
 
   begun-end : 0 < count - 1 → endAtStart p space count (axisAt p joints 0) joints ≡ reached p (getD (itemsIn space poses joints) (space - (count - 1)) absent)
   unfolding endAtStart
@@ -64,7 +64,7 @@ module _ (p : Prepared) (tol : Tolerances) (space count : ℕ) (poses₀ joints�
       let two : 1 < count = omega arith in
       rw (lt-leb count 1 two) (axis-there p space poses joints (space - count + 1) (omega arith) ∙ ap (λ (i : ℕ). reached p (getD (itemsIn space poses joints) i absent)) z)
 
-  pub begun-ready : space * 6 ≤ length poses → space * 5 ≤ length joints → Ready p tol space (begun p space count joints) poses joints
+  pub begun-ready : space * 6 ≤ length poses → space * 5 ≤ length joints → Ready p tol space (begun p space count had joints) poses joints
   unfolding begun
   begun-ready a b =
       let s = begun-state in
@@ -84,12 +84,12 @@ module _ (p : Prepared) (tol : Tolerances) (space count : ℕ) (poses₀ joints�
         joints-long = b;
       }
 
-  pub begun-same : division p tol space (itemsIn count poses₀ joints₀) ≡ halvedFrom p tol space (begun p space count joints) poses joints
-  unfolding division halvedFrom begun
+  pub begun-same : divisionAfter had p tol space (itemsIn count poses₀ joints₀) ≡ halvedFrom p tol space (begun p space count had joints) poses joints
+  unfolding divisionAfter halvedFrom begun
   begun-same = begun-state .same
 
-  pub begun-ran : {m : Machine} {poses' joints' : List Float} {r : Turn} → m ≡ begun p space count joints → Ran (halvedFrom p tol space m poses joints) space poses' joints' r
-      → Ran (division p tol space (itemsIn count poses₀ joints₀)) space poses' joints' r
+  pub begun-ran : {m : Machine} {poses' joints' : List Float} {r : Turn} → m ≡ begun p space count had joints → Ran (halvedFrom p tol space m poses joints) space poses' joints' r
+      → Ran (divisionAfter had p tol space (itemsIn count poses₀ joints₀)) space poses' joints' r
   begun-ran e h = rw (begun-same, ← e) h
 
 -- ---- the end

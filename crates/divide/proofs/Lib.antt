@@ -18,3 +18,5 @@ pub mod Checks
 pub mod Idle
 pub mod Subdivides
 pub mod BothCalls
+pub mod Pairs
+pub mod Examples

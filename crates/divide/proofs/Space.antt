@@ -39,6 +39,9 @@ space-poses a b = sixths (spaceIn a b) a (space-least a b .0)
 pub space-joints : (a b : ℕ) → spaceIn a b * 5 ≤ b
 space-joints a b = fifths (spaceIn a b) b (space-least a b .1)
 
+pub space-so : {a b n : ℕ} → n ≡ spaceIn a b → (n * 6 ≤ a) × (n * 5 ≤ b)
+space-so {a} {b} e = rw e (space-poses a b, space-joints a b)
+
 -- ---- whole records
 whole-six : (n : ℕ) → eqb (n % 6) 0 ≡ true → n ≡ n / 6 * 6
 whole-six n e = let h = eqb-true (n % 6) 0 e in omega arith

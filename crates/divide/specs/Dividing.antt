@@ -25,6 +25,10 @@ use Rattle.divide.specs.declared.Turn.{Turn}
 use Rattle.divide.specs.declared.Turn.the-variants.{On, TooMany, NoSpace}
 
 -- ---- the division, and what it leaves
+-- with `had` inserted before, which count
+unfoldable pub divisionAfter : ℕ → Prepared → Tolerances → ℕ → List Item → Answer Item
+divisionAfter had p tol space given = halve (divides p tol) (midpoint p) space (most - had) had given
+
 unfoldable pub division : Prepared → Tolerances → ℕ → List Item → Answer Item
 division p tol space given = halve (divides p tol) (midpoint p) space most 0 given
 

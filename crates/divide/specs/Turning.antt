@@ -107,15 +107,15 @@ posesAfter p tol space m poses joints = posesBy m (itemAt poses joints (m .waiti
 unfoldable pub jointsAfter : Prepared → Tolerances → ℕ → Machine → List Float → List Float → List Float
 jointsAfter p tol space m poses joints = jointsBy m (itemAt poses joints (m .waiting)) joints (verdictAt p tol space m poses joints)
 
--- ---- the start: the first given item is placed, and the others wait
+-- ---- the start: the first given item is placed, and the others wait; `had` were inserted before
 unfoldable pub endAtStart : Prepared → ℕ → ℕ → Vec3 → List Float → Vec3
 endAtStart p space count axis joints = cond (leb count 1) axis (axisAt p joints (space - count + 1))
 
-unfoldable pub begun : Prepared → ℕ → ℕ → List Float → Machine
-begun p space count joints = record {
+unfoldable pub begun : Prepared → ℕ → ℕ → ℕ → List Float → Machine
+begun p space count had joints = record {
   placed = 1;
   waiting = space - count + 1;
-  inserted = 0;
+  inserted = had;
   given = count - 1;
   «left_axis» = axisAt p joints 0;
   «end_axis» = endAtStart p space count (axisAt p joints 0) joints;

@@ -44,16 +44,16 @@ fn end_at_start(p: Prepared, space: usize, count: usize, axis: Vec3, joints: &[f
 }
 
 // The first item is placed, and the others wait.
-fn begin(p: Prepared, space: usize, count: usize, joints: &[f64]) -> Machine
+fn begin(p: Prepared, space: usize, count: usize, had: u64, joints: &[f64]) -> Machine
     requires { ⌜ ((0 < count) × (count ≤ space)) × (space * 5 ≤ length (now joints)) ⌝ }
-    ensures { λ r. ⌜ r ≡ begun p space count (now (joints .entry)) ⌝ }
+    ensures { λ r. ⌜ r ≡ begun p space count had (now (joints .entry)) ⌝ }
 {
     let left_axis = axis_at(p, joints, 0);
     let end_axis = end_at_start(p, space, count, left_axis, joints);
     Machine {
         placed: 1,
         waiting: space - count + 1,
-        inserted: 0,
+        inserted: had,
         given: count - 1,
         left_axis,
         end_axis,
@@ -117,7 +117,28 @@ fn close(turn: Turn, poses: &mut [f64], joints: &mut [f64]) -> Divided
     answer_in(turn)
 }
 
-// The division of the first `count` items of the two outputs, with space for `space`.
+// The division of the first `count` items of the two outputs, with space for `space`, after `had` insertions elsewhere.
+pub fn divide_after(
+    p: Prepared,
+    tol: Tolerances,
+    space: usize,
+    count: usize,
+    had: u64,
+    poses: &mut [f64],
+    joints: &mut [f64],
+) -> Divided
+    requires { ⌜ (had ≤ 10000) × (((0 < count) × (count ≤ space)) × ((space * 6 ≤ length (now poses)) × (space * 5 ≤ length (now joints)))) ⌝ }
+    ensures answer { λ r. ⌜ r ≡ S.dividedIn (S.divisionAfter had p tol space (itemsIn count (now (poses .entry)) (now (joints .entry)))) ⌝ }
+    ensures poses { λ r. ⌜ now (poses .exit) ≡ S.posesOver (S.divisionAfter had p tol space (itemsIn count (now (poses .entry)) (now (joints .entry)))) (now (poses .entry)) ⌝ }
+    ensures joints { λ r. ⌜ now (joints .exit) ≡ S.jointsOver (S.divisionAfter had p tol space (itemsIn count (now (poses .entry)) (now (joints .entry)))) (now (joints .entry)) ⌝ }
+{
+    bring(space, count, poses, joints);
+    let m = begin(p, space, count, had, joints);
+    let turn = run(p, tol, space, m, poses, joints);
+    close(turn, poses, joints)
+}
+
+// The same with none inserted before.
 pub fn divide_items(
     p: Prepared,
     tol: Tolerances,
@@ -131,10 +152,7 @@ pub fn divide_items(
     ensures poses { λ r. ⌜ now (poses .exit) ≡ S.posesOver (S.division p tol space (itemsIn count (now (poses .entry)) (now (joints .entry)))) (now (poses .entry)) ⌝ }
     ensures joints { λ r. ⌜ now (joints .exit) ≡ S.jointsOver (S.division p tol space (itemsIn count (now (poses .entry)) (now (joints .entry)))) (now (joints .entry)) ⌝ }
 {
-    bring(space, count, poses, joints);
-    let m = begin(p, space, count, joints);
-    let turn = run(p, tol, space, m, poses, joints);
-    close(turn, poses, joints)
+    divide_after(p, tol, space, count, 0, poses, joints)
 }
 
 // The same with the poses lent elsewhere; the joint sets stand at the front of their output.

@@ -3,6 +3,7 @@
 mod both;
 mod checking;
 mod dividing;
+mod filling;
 mod items;
 mod subdividing;
 mod testing;
@@ -11,6 +12,8 @@ mod turning;
 pub use both::solve_and_divide;
 use chain::Joints;
 use chain::ToolPose;
+pub use filling::fill;
+pub use filling::fill_pair;
 use geometry::Vec3;
 use refusal::Refusal;
 pub use subdividing::subdivide_path;
@@ -67,4 +70,11 @@ pub enum Divided {
 pub enum Division {
     Refused(Refusal),
     Ended(Divided),
+}
+
+// What the pairs of one path share: the poses inserted so far, and the tolerances (Subdiv of the Rust).
+pub struct Subdiv {
+    pub inserted: u64,
+    pub chord: f64,
+    pub axis: f64,
 }

@@ -17,7 +17,7 @@ use crate::testing::verdict;
 use chain::Prepared;
 use geometry::Vec3;
 
-const MOST: u64 = 10000;
+pub const MOST: u64 = 10000;
 
 // The axis that the joints of an item reach.
 pub fn axis_at(p: Prepared, joints: &[f64], i: usize) -> Vec3

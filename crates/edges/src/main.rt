@@ -4,7 +4,6 @@
 //     cargo run --release --bin edges > ../crates/edges/stdout
 use float::Comparison;
 
-mod text;
 mod values;
 
 fn main() {

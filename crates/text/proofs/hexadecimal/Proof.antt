@@ -2,9 +2,9 @@ use native.Mathlib.Omega.{arith}
 use native.Mathlib.Nat.{mod-lt}
 use mathlib.Core.Path.{refl}
 use borrow.Author.Needs.{needs}
-use Rattle.edges.proofs.Laws.{Spelling, spelling-start, spelling-step, spelling-end}
-use Rattle.edges.proofs.text.hexadecimal.Statement.{statement}
-use Rattle.edges.proofs.text.hexadecimal.Tie as tie
+use Rattle.text.proofs.Laws.{Spelling, spelling-start, spelling-step, spelling-end}
+use Rattle.text.proofs.hexadecimal.Statement.{statement}
+use Rattle.text.proofs.hexadecimal.Tie as tie
 
 abbrev Inv-loop : tie.InvT-loop
 Inv-loop bits text₀ rest₀ i₀ text rest i = Spelling bits text rest i

@@ -1,7 +1,7 @@
 use borrow.Author.Needs.{needs}
-use Rattle.edges.proofs.Laws.{no-nan}
-use Rattle.edges.proofs.text.write_float.Statement.{statement}
-use Rattle.edges.proofs.text.write_float.Tie as tie
+use Rattle.text.proofs.Laws.{no-nan}
+use Rattle.text.proofs.write_float.Statement.{statement}
+use Rattle.text.proofs.write_float.Tie as tie
 
 pub write-float-spec : {M : Type 1} → statement M
 write-float-spec =

@@ -1,7 +1,7 @@
-// A float as text: its bits as 16 hexadecimal digits, in upper case, or `nan`.
+// Numbers as text, for programs: 16 hexadecimal digits, in upper case; of a float its bits, or `nan`.
 ghost use Prim.Native.Nat.{_<_};
 ghost use mathlib.Core.Path.{_≡_};
-ghost use Rattle.edges.specs.Hexadecimal.{digit as digitOf, digits};
+ghost use Rattle.text.specs.Hexadecimal.{digit as digitOf, digits};
 use libc::STDOUT_FILENO;
 
 pub fn write(bytes: &[u8]) {
@@ -16,6 +16,13 @@ pub fn write_float(x: f64) {
         return;
     }
     let text = hexadecimal(f64::to_bits(x));
+    write(&text);
+}
+
+// A blank and the number.
+pub fn write_number(n: u64) {
+    write(b" ");
+    let text = hexadecimal(n);
     write(&text);
 }
 

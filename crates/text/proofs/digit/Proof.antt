@@ -1,7 +1,7 @@
 use borrow.Author.Needs.{needs}
 use borrow.Author.Tests.{lt-ltb, le-ltb}
-use Rattle.edges.proofs.text.digit.Statement.{statement}
-use Rattle.edges.proofs.text.digit.Tie as tie
+use Rattle.text.proofs.digit.Statement.{statement}
+use Rattle.text.proofs.digit.Tie as tie
 
 pub digit-spec : {M : Type 1} → statement M
 digit-spec =
