@@ -15,7 +15,7 @@ use chain::demand;
 use chain::then;
 use path::Start;
 
-fn three_whole(poses: usize, room_poses: usize, room_joints: usize) -> bool
+pub fn three_whole(poses: usize, room_poses: usize, room_joints: usize) -> bool
     ensures { λ r. ⌜ r ≡ S.threeWhole poses «room_poses» «room_joints» ⌝ }
 {
     if path::whole_records(poses, room_joints) {

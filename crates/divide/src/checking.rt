@@ -109,7 +109,7 @@ fn division_sizes(k: Kinematics, poses: &[f64], joints: &[f64], numbers: usize) 
     false
 }
 
-fn four_whole(poses: usize, joints: usize, room_poses: usize, room_joints: usize) -> bool
+pub fn four_whole(poses: usize, joints: usize, room_poses: usize, room_joints: usize) -> bool
     ensures { λ r. ⌜ r ≡ S.fourWhole poses joints «room_poses» «room_joints» ⌝ }
 {
     if path::whole_records(poses, joints) {

@@ -10,8 +10,10 @@ mod testing;
 mod turning;
 
 pub use both::solve_and_divide;
+pub use both::three_whole;
 use chain::Joints;
 use chain::ToolPose;
+pub use checking::four_whole;
 pub use filling::fill;
 pub use filling::fill_pair;
 use geometry::Vec3;

@@ -4,5 +4,6 @@ pub mod ChainEntries
 pub mod LinkEntries
 pub mod InverseEntries
 pub mod PathEntries
+pub mod DivideEntries
 pub mod Steps
 pub mod Examples

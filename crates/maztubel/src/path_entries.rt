@@ -31,7 +31,7 @@ pub extern "C" fn maztubel_solve_path(
     hand_back(checked, at, letter)
 }
 
-fn start_good(numbers: usize) -> bool
+pub fn start_good(numbers: usize) -> bool
     ensures { λ r. ⌜ r ≡ S.startGood numbers ⌝ }
 {
     if numbers == 0 {
@@ -50,7 +50,7 @@ fn lengths_good(poses: usize, joints: usize, start: usize) -> bool
     false
 }
 
-fn start_in(start: &[f64]) -> Start
+pub fn start_in(start: &[f64]) -> Start
     ensures { λ r. ⌜ r ≡ S.startIn (now (start .entry)) ⌝ }
 {
     if start.len() == 5 {
