@@ -1,3 +1,6 @@
+pub mod Bounded
+pub mod Positions
+pub mod OneEnough
 pub mod Walking
 pub mod Room
 pub mod Promises
