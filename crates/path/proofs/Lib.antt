@@ -1,3 +1,4 @@
+pub mod FarApart
 pub mod Bounded
 pub mod Positions
 pub mod OneEnough

@@ -1,6 +1,9 @@
 -- The closer of two solutions alone, where that is the answer: one is closer, it is reached, it is within the limits, and no number is so large that the other's position could overflow.
 use mathlib.Core.Bool.{Bool, true, false, not, cond, _&&_}
-use lib.Ieee.{Float}
+use lib.Ieee as Ieee
+use lib.Ieee.{Float, binary64, ofBits}
+use Rattle.float.specs.Helpers.{nought}
+use Rattle.float.specs.Root.{root}
 use Rattle.float.specs.TotalOrder.{before}
 use Rattle.geometry.specs.declared.Vec3.{Vec3}
 use Rattle.chain.specs.declared.Joints.{Joints}
@@ -37,6 +40,20 @@ keptOf b angles Nothing = Nothing
 
 unfoldable pub kept : Setup → Vec3 → Vec3 → Angles → Angles → Candidate
 kept s target tip angles unwound = keptOf (s .bounds) unwound (reachedBy (s .chain) target tip angles)
+
+-- whether the root of x stands before that of y
+unfoldable pub rootBefore : Float → Float → Bool
+rootBefore x y = before (root x) (root y)
+
+-- 8,100 and 10,000, the squares of 90 and 100
+abbrev pub nearSquare : Float
+nearSquare = ofBits binary64 0x40bf_a400_0000_0000
+
+abbrev pub farSquare : Float
+farSquare = ofBits binary64 0x40c3_8800_0000_0000
+
+unfoldable pub farApart : Float → Float → Bool
+farApart near far = Ieee.le nought near && Ieee.le near nearSquare && Ieee.le farSquare far
 
 -- how far a pair of angles is from the pair before it, unwound
 abbrev pub distance : Bool → Angles → Angles → Float

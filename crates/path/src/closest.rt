@@ -6,7 +6,7 @@ use crate::Candidate;
 use crate::Setup;
 use crate::exact::reached_by;
 use crate::unwinding::inside;
-use crate::unwinding::rotary_distance;
+use crate::unwinding::rotary_square;
 use crate::unwinding::unwind_angles;
 use chain::Joints;
 use chain::Prepared;
@@ -64,6 +64,31 @@ fn kept(s: Setup, target: Vec3, tip: Vec3, angles: Angles, unwound: Angles) -> C
     kept_at(s.bounds, j, unwound)
 }
 
+// From 0 to 8,100, and from 10,000 on: the root of the one is at most 90, that of the other at least 100.
+fn far_apart(near: f64, far: f64) -> bool
+    ensures { λ r. ⌜ r ≡ S.farApart near far ⌝ }
+{
+    if 0.0 <= near {
+        if near <= 8100.0 {
+            return 10000.0 <= far;
+        }
+    }
+    false
+}
+
+// Which of two lengths is the shorter, by their squares: with roots only where they are not far apart.
+fn root_before(x: f64, y: f64) -> bool
+    ensures { λ r. ⌜ r ≡ S.rootBefore x y ⌝ }
+{
+    if far_apart(x, y) {
+        return true;
+    }
+    if far_apart(y, x) {
+        return false;
+    }
+    float::precedes(float::root(x), float::root(y))
+}
+
 // Neither of two that tie.
 fn closer(
     s: Setup,
@@ -78,12 +103,12 @@ fn closer(
     let bounds = s.bounds;
     let first = unwind_angles(bounds.two, one, previous);
     let second = unwind_angles(bounds.two, two, previous);
-    let near = rotary_distance(bounds.two, first, previous);
-    let far = rotary_distance(bounds.two, second, previous);
-    if float::precedes(far, near) {
+    let near = rotary_square(bounds.two, first, previous);
+    let far = rotary_square(bounds.two, second, previous);
+    if root_before(far, near) {
         return kept(s, target, tip, two, second);
     }
-    if float::precedes(near, far) {
+    if root_before(near, far) {
         return kept(s, target, tip, one, first);
     }
     Candidate::Nothing
