@@ -1,4 +1,5 @@
 pub mod FarApart
+pub mod FarFromPole
 pub mod Bounded
 pub mod Positions
 pub mod OneEnough
