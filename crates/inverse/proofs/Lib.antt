@@ -1,3 +1,4 @@
+pub mod SmallGap
 pub mod FromTurns
 pub mod Insertion
 pub mod Picking

@@ -39,11 +39,16 @@ pub fn pose_from(p: Prepared, turns: Turns, tool_length: f64) -> ToolPose
     chain::forward_core(p, turns, origin, tool_length)
 }
 
-// More than 1e-9 off.
+// More than 1e-9 off. A square up to 2^-60 needs no root: its root is at most 2^-30, below 1e-9.
 pub fn misses(axis: Vec3, target: Vec3) -> bool
     ensures { λ r. ⌜ r ≡ S.misses axis target ⌝ }
 {
-    1e-9 < geometry::norm(geometry::sub(axis, target))
+    let gap = geometry::sub(axis, target);
+    let square = geometry::dot(gap, gap);
+    if square <= 8.673617379884035e-19 {
+        return false;
+    }
+    1e-9 < float::root(square)
 }
 
 // The angles with the position that puts the tip from `tip0` on `tip`. `turns` are those of the rotaries at these angles.

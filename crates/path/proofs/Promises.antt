@@ -37,7 +37,7 @@ use Rattle.inverse.specs.declared.Solved.the-variants as Solved
 use Rattle.path.specs.Unwinding.{unwindAngles, inside, differentBranch}
 use Rattle.path.specs.Singular.{singularFrame, inSingularCone, nearestPole}
 use Rattle.path.specs.Locking.{refused, withinLimits, finitePosition, placedAt, lockedJoints, strays, limited, unlessStraying, coneSolution}
-use Rattle.path.specs.Exact.{reachedBy, candidate, anglesOf, secondCandidate, positionFinite, unwound, ranked, ranksBefore, closestOrOther, ofRanked, alone, both, ofCandidates, ofPositions, exactPose}
+use Rattle.path.specs.Exact.{reachedBy, candidate, anglesOf, secondCandidate, positionFinite, unwound, ranked, ranksBefore, closestOrOther, ofRanked, alone, both, ofCandidates, ofPositions, ofRaw, exactPose}
 use Rattle.path.specs.Posing.{boundsOf, setUp, byFrame, solveOne, turnedWithin, withTurns, solvedTip, solvedPose, atPose, poseAnswer}
 use Rattle.path.specs.Solving.{PathAnswer, Along, AtPose, Kept, thenOn, withPose, solvePoses, startAngles, posesIn, solveCheck, unlessKept, solveChecked, solvePath}
 use Rattle.path.specs.Promise.{Served, OnPath}
@@ -109,7 +109,7 @@ positions-inside b previous c d =
     (λ f. candidates-inside b previous c d (not-false (positionFinite c) e) (not-false (positionFinite d) f)))
 
 exact-inside : (s : Setup) (target tip : Vec3) (previous : Angles) → Holds (Inside (s .bounds)) (exactPose s target tip previous)
-unfolding exactPose
+unfolding exactPose ofRaw
 exact-inside s target tip previous = positions-inside (s .bounds) previous _ _
 
 -- ---- inside the cone
@@ -249,7 +249,7 @@ module _ (k : Kinematics) (cone : Float) (one : eqb (k .count) 2 ≡ false) wher
   raw-unused target hint = angle-unused (sp1 (prepared k .first .axis) (prepared k .spindle) target) (signOf (prepared k .first .mount)) hint
 
   exact-unused : (target tip : Vec3) (previous : Angles) → Holds Unused (exactPose (setUp k cone) target tip previous)
-  unfolding exactPose setUp boundsOf
+  unfolding exactPose ofRaw setUp boundsOf
   exact-unused target tip previous =
       rw (raw-one, second-none)
       (candidates-unused (boundsOf k) previous (candidate (prepared k) target tip (oneJointAngles (prepared k .first) (prepared k .spindle) target previous)) one

@@ -100,10 +100,11 @@ ofPositions b previous first second =
     (cond (not (positionFinite second)) (refused notFinite)
     (ofCandidates b previous first second))
 
-abbrev pub solutions : Prepared → Vec3 → Vec3 → RawAngles → RawAngles → (Candidate → Candidate → PoseAnswer) → PoseAnswer
-solutions p target tip one two choose = choose (candidate p target tip one) (secondCandidate p target tip (candidate p target tip one) two)
+-- of both raw pairs
+unfoldable pub ofRaw : Setup → Vec3 → Vec3 → Angles → RawAngles → RawAngles → PoseAnswer
+ofRaw s target tip previous one two =
+    ofPositions (s .bounds) previous (candidate (s .chain) target tip one) (secondCandidate (s .chain) target tip (candidate (s .chain) target tip one) two)
 
 unfoldable pub exactPose : Setup → Vec3 → Vec3 → Angles → PoseAnswer
 exactPose s target tip previous =
-    solutions (s .chain) target tip (orientationAngles (s .chain) target previous .first) (orientationAngles (s .chain) target previous .second)
-    (ofPositions (s .bounds) previous)
+    ofRaw s target tip previous (orientationAngles (s .chain) target previous .first) (orientationAngles (s .chain) target previous .second)

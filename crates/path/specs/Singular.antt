@@ -1,11 +1,11 @@
 -- The singular direction of a chain of two: one rotary on the spindle within 1e-6 of its cosine, the other within 1e-3 of square to it. And the cone about it and about the opposite direction.
-use mathlib.Core.Bool.{Bool, true, false, cond}
+use mathlib.Core.Bool.{Bool, true, false, cond, _&&_}
 use lib.Ieee as Ieee
 use lib.Ieee.{Float, binary64, ofBits}
 use Rattle.float.specs.Helpers.{nought, one, sizeOf, clampUnit, minimum, toDegrees}
 use Rattle.trig.specs.Arccosine.{arccosineOf}
 use Rattle.geometry.specs.declared.Vec3.{Vec3}
-use Rattle.geometry.specs.Vector.{dot, scale, minus}
+use Rattle.geometry.specs.Vector.{dot, scale, plus, minus, times}
 use Rattle.geometry.specs.Slerp.{with, halfTurnDegrees}
 use Rattle.chain.specs.declared.Mount.{Mount}
 use Rattle.chain.specs.declared.Mount.the-variants.{Table, Head, Absent}
@@ -55,6 +55,20 @@ poleClearanceDeg axis direction =
 
 unfoldable pub inSingularCone : SingularFrame → Float → Vec3 → Bool
 inSingularCone f cone axis = Ieee.le (poleClearanceDeg axis (f .direction)) cone
+
+-- 10, 63 / 64 and 127 / 4096
+abbrev pub tenDegrees : Float
+tenDegrees = ofBits binary64 0x4024_0000_0000_0000
+
+abbrev pub wide : Float
+wide = ofBits binary64 0x3fef_8000_0000_0000
+
+abbrev pub leastSquare : Float
+leastSquare = ofBits binary64 0x3f9f_c000_0000_0000
+
+-- a cosine with which no cone of up to 10 degrees has the axis in it
+unfoldable pub wellOutside : Float → Float → Bool
+wellOutside c cone = Ieee.le cone tenDegrees && Ieee.le (sizeOf c) wide && Ieee.le leastSquare (times (minus one c) (plus one c))
 
 unfoldable pub nearestPole : Vec3 → Vec3 → Vec3
 nearestPole target direction = inSense direction target

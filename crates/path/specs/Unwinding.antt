@@ -35,10 +35,12 @@ unwindAngles two angles previous =
 unfoldable pub squared : Float → Float → Float → Float
 squared sum angle previous = plus sum (times (minus angle previous) (minus angle previous))
 
+unfoldable pub rotarySquare : Bool → Angles → Angles → Float
+rotarySquare two angles previous =
+    cond two (squared (squared nought (angles .a0) (previous .a0)) (angles .a1) (previous .a1)) (squared nought (angles .a0) (previous .a0))
+
 unfoldable pub rotaryDistance : Bool → Angles → Angles → Float
-rotaryDistance two angles previous =
-    cond two (root (squared (squared nought (angles .a0) (previous .a0)) (angles .a1) (previous .a1)))
-    (root (squared nought (angles .a0) (previous .a0)))
+rotaryDistance two angles previous = root (rotarySquare two angles previous)
 
 -- ---- another branch: a rotary more than 90 degrees away
 abbrev pub branchSplit : Float

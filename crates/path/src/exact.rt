@@ -6,6 +6,7 @@ use crate::Candidate;
 use crate::PoseAnswer;
 use crate::Ranked;
 use crate::Setup;
+use crate::closest::closest_alone;
 use crate::locking::refused;
 use crate::locking::within_limits;
 use crate::unwinding::different_branch;
@@ -19,7 +20,7 @@ use inverse::Angles;
 use inverse::RawAngles;
 
 // The joints of a pair of angles, where they put the spindle on the target axis.
-fn reached_by(p: Prepared, target: Vec3, tip: Vec3, angles: Angles) -> Candidate
+pub fn reached_by(p: Prepared, target: Vec3, tip: Vec3, angles: Angles) -> Candidate
     ensures { λ r. ⌜ r ≡ S.reachedBy p target tip angles ⌝ }
 {
     let turns = chain::turns_of(p, angles.a0, angles.a1);
@@ -183,15 +184,33 @@ fn of_positions(b: Bounds, previous: Angles, first: Candidate, second: Candidate
     of_candidates(b, previous, first, second)
 }
 
+// The answer of both raw pairs.
+fn of_raw(
+    s: Setup,
+    target: Vec3,
+    tip: Vec3,
+    previous: Angles,
+    one: RawAngles,
+    two: RawAngles,
+) -> PoseAnswer
+    ensures { λ r. ⌜ r ≡ S.ofRaw s target tip previous one two ⌝ }
+{
+    let p = s.chain;
+    let first = candidate(p, target, tip, one);
+    let second = second_candidate(p, target, tip, first, two);
+    of_positions(s.bounds, previous, first, second)
+}
+
 // `target` is a unit vector.
 pub fn exact_pose(s: Setup, target: Vec3, tip: Vec3, previous: Angles) -> PoseAnswer
     ensures { λ r. ⌜ r ≡ S.exactPose s target tip previous ⌝ }
 {
-    let p = s.chain;
-    let raw = inverse::orientation_angles(p, target, previous);
+    let raw = inverse::orientation_angles(s.chain, target, previous);
     let one = raw.first;
     let two = raw.second;
-    let first = candidate(p, target, tip, one);
-    let second = second_candidate(p, target, tip, first, two);
-    of_positions(s.bounds, previous, first, second)
+    let closest = closest_alone(s, target, tip, previous, one, two);
+    match closest {
+        Candidate::At(j) => PoseAnswer::At(j),
+        Candidate::Nothing => of_raw(s, target, tip, previous, one, two),
+    }
 }

@@ -1,5 +1,6 @@
 // Joints along a path, each pose continuous with the one before it (solve_path of the Rust): exact where the rotaries can follow, locked inside the cone about the singular direction.
 // What is solved of one pose is by value and total; what is lent is touched in one place.
+mod closest;
 mod exact;
 mod locking;
 mod posing;

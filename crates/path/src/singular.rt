@@ -76,9 +76,25 @@ fn pole_clearance_deg(axis: Vec3, direction: Vec3) -> f64
     float::to_degrees(float::minimum(near, far))
 }
 
+// Beyond 10 degrees of both poles, by the cosine: no cone has the axis in it, and no angle is needed.
+fn well_outside(cosine: f64, cone: f64) -> bool
+    ensures { λ r. ⌜ r ≡ S.wellOutside cosine cone ⌝ }
+{
+    if cone <= 10.0 {
+        if float::size(cosine) <= 0.984375 {
+            return 0.031005859375 <= (1.0 - cosine) * (1.0 + cosine);
+        }
+    }
+    false
+}
+
 pub fn in_singular_cone(f: SingularFrame, cone: f64, axis: Vec3) -> bool
     ensures { λ r. ⌜ r ≡ S.inSingularCone f cone axis ⌝ }
 {
+    let cosine = float::clamp_unit(dot(axis, f.direction));
+    if well_outside(cosine, cone) {
+        return false;
+    }
     pole_clearance_deg(axis, f.direction) <= cone
 }
 

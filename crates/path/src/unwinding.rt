@@ -41,16 +41,23 @@ pub fn unwind_angles(two: bool, angles: Angles, previous: Angles) -> Angles
     Angles { a0, a1: angles.a1 }
 }
 
-// The length of the change of the angles.
-pub fn rotary_distance(two: bool, angles: Angles, previous: Angles) -> f64
-    ensures { λ r. ⌜ r ≡ S.rotaryDistance two angles previous ⌝ }
+// The square of the length of the change of the angles.
+pub fn rotary_square(two: bool, angles: Angles, previous: Angles) -> f64
+    ensures { λ r. ⌜ r ≡ S.rotarySquare two angles previous ⌝ }
 {
     let first = angles.a0 - previous.a0;
     if two {
         let second = angles.a1 - previous.a1;
-        return float::root(0.0 + first * first + second * second);
+        return 0.0 + first * first + second * second;
     }
-    float::root(0.0 + first * first)
+    0.0 + first * first
+}
+
+// The length of the change of the angles.
+pub fn rotary_distance(two: bool, angles: Angles, previous: Angles) -> f64
+    ensures { λ r. ⌜ r ≡ S.rotaryDistance two angles previous ⌝ }
+{
+    float::root(rotary_square(two, angles, previous))
 }
 
 // More than 90 degrees apart.
