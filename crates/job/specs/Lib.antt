@@ -1,0 +1,2 @@
+pub mod JobBytes
+pub mod JobPoses

@@ -1,0 +1,33 @@
+// A job: its bytes, the cable number of a rotary on its path, and the text of its answer. Everything is read from lent bytes and numbers; a refusal keeps all that is lent.
+mod job_bytes;
+mod lending;
+mod placing;
+
+use chain::Kinematics;
+pub use job_bytes::read_job;
+pub use lending::job_poses;
+use refusal::Refusal;
+
+// What the trailer says: where chain and poses start, counted from the first byte of the file, how many poses there are, and a word that must be zero.
+pub struct Places {
+    pub chain: u32,
+    pub poses: u32,
+    pub count: u32,
+    pub word: u32,
+}
+
+// A job without its poses, which stay in the bytes.
+pub struct Job {
+    pub chain_at: u32,
+    pub poses_at: u32,
+    pub poses: u32,
+    pub cone: f64,
+    pub chord: f64,
+    pub axis: f64,
+    pub chain: Kinematics,
+}
+
+pub enum JobRead {
+    Job(Job),
+    Refused(Refusal),
+}
