@@ -1,1 +1,2 @@
 pub mod JobWithin
+pub mod Copying
