@@ -2,7 +2,8 @@
 use Prim.Native.Nat.{ℕ, _+_, _-_, _*_, _≤_, _<_}
 use native.Mathlib.Omega.{arith}
 use mathlib.Core.Path.{_≡_, refl, sym, _∙_, ap}
-use mathlib.Core.Bool.{Bool, true, false, not, _||_, and-eq-true-iff}
+use mathlib.Core.Bool.{Bool, true, false, not, _||_, and-eq-true-iff, false≢true}
+use mathlib.Core.Logic.{_⊎_, inl, inr}
 use mathlib.Core.List.{List}
 use borrow.Author.Tests.{leb-true, ltb-true, ltb-false, eqb-true, not-true, lt-ltb, lt-leb}
 use lib.Dec.{leb, ltb, eqb}
@@ -78,12 +79,24 @@ given : (c : Checked) (j k : Job) → jobUnless c k ≡ JobRead.Job j → (c ≡
 given Checked.Passed j k e = (refl, cc)
 given (Checked.Refused r) j k e = (cc, cc)
 
+apart-parts : (p : Places) (chain poses : ℕ) → apart p chain poses ≡ true → (p .count ≡ 0) ⊎ ((poses ≤ p .chain) ⊎ (chain ≤ p .poses))
+unfolding apart
+apart-parts p chain poses e = by-cases (eqb (p .count) 0) (leb poses (p .chain)) (leb chain (p .poses)) refl refl refl e
+  where
+    by-cases : (x y z : Bool) → eqb (p .count) 0 ≡ x → leb poses (p .chain) ≡ y → leb chain (p .poses) ≡ z → (x || y || z) ≡ true
+        → (p .count ≡ 0) ⊎ ((poses ≤ p .chain) ⊎ (chain ≤ p .poses))
+    by-cases true y z a b c e = inl (eqb-true _ _ a)
+    by-cases false true z a b c e = inr (inl (leb-true _ _ b))
+    by-cases false false true a b c e = inr (inr (leb-true _ _ c))
+    by-cases false false false a b c e = absurd (false≢true e)
+
 -- chain and poses lie before the trailer, which lies in the bytes; with poses they do not overlap
 pub record Within (w : ℕ) (bytes : List ℕ) (j : Job) : Type 0 where
   pub least : 40 ≤ length bytes
   pub most : length bytes ≤ 65536
   pub chain-in : j .«chain_at» + chainLength w (j .chain .count) ≤ length bytes - 40
   pub poses-in : j .«poses_at» + 48 * j .poses ≤ length bytes - 40
+  pub apart-from : (j .poses ≡ 0) ⊎ ((j .«poses_at» + 48 * j .poses ≤ j .«chain_at») ⊎ (j .«chain_at» + chainLength w (j .chain .count) ≤ j .«poses_at»))
 
 module _ (w : ℕ) (bytes : List ℕ) (j : Job) (read : readJob w bytes ≡ JobRead.Job j) where
   pub fields-passed : jobFields w bytes (placesIn bytes) (byteAt bytes (placesIn bytes .chain)) ≡ Checked.Passed
@@ -94,16 +107,37 @@ module _ (w : ℕ) (bytes : List ℕ) (j : Job) (read : readJob w bytes ≡ JobR
   unfolding readJob jobFrom
   job-is = given (jobFields w bytes (placesIn bytes) (byteAt bytes (placesIn bytes .chain))) j _ read .1
 
-  pub within : Within w bytes j
-  unfolding jobFields jobAt chainIn
-  within =
+  length-good : sized (length bytes) ≡ true
+  unfolding jobFields
+  length-good = demand-passed _ _ _ (then-passed (demand (sized (length bytes)) Numbers.malformed 0) _ fields-passed .0)
+
+  pub parts : Placed w bytes (placesIn bytes) (byteAt bytes (placesIn bytes .chain))
+  unfolding jobFields
+  parts =
       let a = then-passed (demand (sized (length bytes)) Numbers.malformed 0) _ fields-passed in
-      let b = then-passed (placed w bytes (placesIn bytes) (byteAt bytes (placesIn bytes .chain))) _ (a .1) in
-      let s = demand-passed (sized (length bytes)) Numbers.malformed 0 (a .0) in
-      let q = placed-passed w bytes (placesIn bytes) (byteAt bytes (placesIn bytes .chain)) (b .0) in
-      record {
-        least = sized-least (length bytes) s;
-        most = sized-most (length bytes) s;
-        chain-in = rw job-is (q .chain-within);
-        poses-in = rw job-is (q .poses-within);
-      }
+      placed-passed w bytes (placesIn bytes) (byteAt bytes (placesIn bytes .chain)) (then-passed (placed w bytes (placesIn bytes) (byteAt bytes (placesIn bytes .chain))) _ (a .1) .0)
+
+  pub chain-at : j .«chain_at» ≡ placesIn bytes .chain
+  unfolding jobAt
+  chain-at = rw job-is
+
+  pub poses-at : j .«poses_at» ≡ placesIn bytes .poses
+  unfolding jobAt
+  poses-at = rw job-is
+
+  pub pose-count : j .poses ≡ placesIn bytes .count
+  unfolding jobAt
+  pose-count = rw job-is
+
+  pub rotaries : j .chain .count ≡ byteAt bytes (placesIn bytes .chain)
+  unfolding jobAt chainIn
+  rotaries = rw job-is
+
+  pub within : Within w bytes j
+  within = record {
+    least = sized-least (length bytes) length-good;
+    most = sized-most (length bytes) length-good;
+    chain-in = rw (chain-at, rotaries) (parts .chain-within);
+    poses-in = rw (poses-at, pose-count) (parts .poses-within);
+    apart-from = rw (chain-at, rotaries, poses-at, pose-count) (apart-parts _ _ _ (parts .apart-from));
+  }

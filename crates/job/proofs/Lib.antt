@@ -1,2 +1,3 @@
 pub mod JobWithin
 pub mod Copying
+pub mod JobBetween
