@@ -8,6 +8,7 @@ mod turning;
 use chain::Joints;
 use chain::ToolPose;
 use geometry::Vec3;
+pub use items::joints_in;
 pub use testing::joints_unchanged;
 pub use testing::lerp_joints;
 pub use testing::midpoint;
