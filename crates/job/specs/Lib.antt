@@ -1,2 +1,3 @@
 pub mod JobBytes
 pub mod JobPoses
+pub mod Cable

@@ -2,11 +2,13 @@
 mod job_bytes;
 mod lending;
 mod placing;
+mod winding;
 
 use chain::Kinematics;
 pub use job_bytes::read_job;
 pub use lending::job_poses;
 use refusal::Refusal;
+pub use winding::cable_number;
 
 // What the trailer says: where chain and poses start, counted from the first byte of the file, how many poses there are, and a word that must be zero.
 pub struct Places {
@@ -29,5 +31,17 @@ pub struct Job {
 
 pub enum JobRead {
     Job(Job),
+    Refused(Refusal),
+}
+
+// What one reading of a path's joint sets finds: whether all are finite, whether all are within the limits of size, and the most whole turns of a rotary.
+pub struct Survey {
+    pub finite: bool,
+    pub within: bool,
+    pub turns: u64,
+}
+
+pub enum Cable {
+    Turns(u64),
     Refused(Refusal),
 }
