@@ -108,7 +108,7 @@ module _ (rotary : ℕ) where
   }
     where
       by-found : (fold (λ (n : ℕ) (j : Joints). larger n (turnsWithin (angleOf rotary j))) 0 l ≡ 0)
-              ⊎ Some (λ (j : Joints). turnsWithin (angleOf rotary j) ≡ fold (λ (n : ℕ) (i : Joints). larger n (turnsWithin (angleOf rotary i))) 0 l) l
+          ⊎ Some (λ (j : Joints). turnsWithin (angleOf rotary j) ≡ fold (λ (n : ℕ) (i : Joints). larger n (turnsWithin (angleOf rotary i))) 0 l) l
           → (fold (λ (n : ℕ) (j : Joints). larger n (turnsWithin (angleOf rotary j))) 0 l ≡ 0)
           ⊎ Some (λ (j : Joints). Turned (fold (λ (n : ℕ) (i : Joints). larger n (turnsWithin (angleOf rotary i))) 0 l) (angleOf rotary j)) l
       by-found (inl z) = inl z

@@ -4,3 +4,4 @@ pub mod JobBetween
 pub mod Turns
 pub mod Surveying
 pub mod CableLaws
+pub mod Written

@@ -1,3 +1,4 @@
 pub mod JobBytes
 pub mod JobPoses
 pub mod Cable
+pub mod Spelling

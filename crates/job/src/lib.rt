@@ -2,6 +2,7 @@
 mod job_bytes;
 mod lending;
 mod placing;
+mod spelling;
 mod winding;
 
 use chain::Kinematics;

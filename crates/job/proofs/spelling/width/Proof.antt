@@ -1,0 +1,32 @@
+use Prim.Native.Nat.{_-_, _+_, _≤_}
+use mathlib.Core.Path.{_≡_}
+use native.Mathlib.Omega.{arith}
+use borrow.Author.Needs.{needs}
+use lib.ListN.{length}
+use Rattle.job.proofs.Written.{Counting, counting-start, counting-step, counting-end}
+use Rattle.job.proofs.spelling.width.Statement.{statement}
+use Rattle.job.proofs.spelling.width.Tie as tie
+
+abbrev Inv-loop : tie.InvT-loop
+Inv-loop x rest₀ n₀ rest n = Counting x rest n
+
+abbrev μ-loop : tie.MeasureT-loop
+μ-loop x rest₀ n₀ rest n = rest
+
+loop-holds : tie.Need-loop-holds Inv-loop μ-loop
+loop-holds c = counting-start _
+
+add-n : tie.Need-add-n Inv-loop μ-loop
+add-n c = omega arith
+
+loop-less : tie.Need-loop-less Inv-loop μ-loop
+loop-less c = omega arith
+
+loop-again : tie.Need-loop-again Inv-loop μ-loop
+loop-again c = counting-step (c .loop-test .taken) (c .before .loop .inv)
+
+returns : tie.Need-returns Inv-loop μ-loop
+returns c = counting-end (c .loop-test .left) (c .before .loop .inv)
+
+pub width-spec : {M : Type 1} → statement M
+width-spec = tie.close (tie.spec Inv-loop μ-loop loop-holds add-n loop-less loop-again returns)
