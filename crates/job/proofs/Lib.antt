@@ -5,3 +5,5 @@ pub mod Turns
 pub mod Surveying
 pub mod CableLaws
 pub mod Written
+pub mod Lines
+pub mod Texts

@@ -1,18 +1,18 @@
 -- Laws of texts: one behind another, a digit before the rest, and the widths of numbers.
-use Prim.Native.Nat.{ℕ, zero, suc, _+_, _-_, _*_, _/_, _%_, _≤_, _<_}
-use native.Mathlib.Nat.{add-zero, mod-lt}
+use Prim.Native.Nat.{ℕ, zero, suc, _+_, _-_, _*_, _/_, _%_, _^_, _≤_, _<_}
+use native.Mathlib.Nat.{add-zero, mod-lt, div-lt-iff-lt-mul, pow-succ'}
 use native.Mathlib.Numerals.{add-one}
 use native.Mathlib.Omega.{arith}
 use mathlib.Core.Path.{_≡_, refl, sym, ap, _∙_}
 use mathlib.Core.Bool.{Bool, true, false, cond}
 use mathlib.Core.List.{List, [], _∷_, _++_}
-use borrow.Author.Tests.{lt-ltb, le-ltb}
+use borrow.Author.Tests.{lt-ltb, le-ltb, ltb-true, ltb-false}
 use lib.Dec.{ltb}
 use lib.ListN.{length, getD, drop, set, length-set, length-append}
 use lib.Seq.{set-comm, drop-cons}
 use lib.ListN.{drop-of-length-le}
 use lib.Ieee.{Float}
-use Rattle.job.specs.Spelling.{written, digit, digits, widthWithin, width, decimal, labelled, bitsOf, number}
+use Rattle.job.specs.Spelling.{written, digit, digits, widthWithin, width, decimal, labelled, paired, bitsOf, number}
 
 -- ---- texts
 pub length-written : (l : List ℕ) (at : ℕ) (t : List ℕ) → length (written l at t) ≡ length l
@@ -150,6 +150,27 @@ pub width-few : (x : ℕ) → width x ≤ x + 1
 unfolding width
 width-few x = within-few x x
 
+-- a number below 10 ^ k has at most k digits
+under : (k x : ℕ) → x < 10 ^ suc k → width x ≤ suc k
+under zero x h =
+    let e = width-small x h in
+    omega (arith, e)
+under (suc k) x h = by-size (ltb x 10) refl (λ d. under k (x / 10) d)
+  where
+    by-size : (t : Bool) → ltb x 10 ≡ t → (x / 10 < 10 ^ suc k → width (x / 10) ≤ suc k) → width x ≤ suc (suc k)
+    by-size true q f =
+        let e = width-small x (ltb-true x 10 q) in
+        omega (arith, e)
+    by-size false q f =
+        let e = width-more x (ltb-false x 10 q) in
+        let n = pow-succ' 10 (suc k) in
+        let p : x < 10 ^ suc k * 10 = omega (arith, h, n) in
+        let g = f (div-lt-iff-lt-mul {k = 10} {x = x} {y = 10 ^ suc k} (omega arith) .1 p) in
+        omega (arith, e, g)
+
+pub width-word : (x : ℕ) → x < 2 ^ 64 → width x ≤ 20
+width-word x h = under 19 x (omega (arith, h))
+
 pub length-decimal : (x : ℕ) → length (decimal x) ≡ width x
 unfolding decimal
 length-decimal x = length-digits 10 (width x) x
@@ -202,3 +223,27 @@ put-labelled l l1 l2 at label x r e f =
 
 pub length-behind : (l' l : List ℕ) (at b k : ℕ) (t : List ℕ) → l' ≡ written (set l at b) k t → length l' ≡ length l
 length-behind l' l at b k t e = ap length e ∙ length-written (set l at b) k t ∙ length-set l at b
+
+pub length-put : (l' l : List ℕ) (at : ℕ) (t : List ℕ) → l' ≡ written l at t → length l' ≡ length l
+length-put l' l at t e = ap length e ∙ length-written l at t
+
+-- ---- two words with their numbers
+pub length-paired : (label : List ℕ) (x : ℕ) (word : List ℕ) (y : ℕ) → length (paired label x word y) ≡ length label + width x + (length word + width y)
+unfolding paired
+length-paired label x word y = rw (length-append, length-labelled, length-labelled)
+
+pub put-paired : (l l1 l2 : List ℕ) (at a r : ℕ) (label : List ℕ) (x : ℕ) (word : List ℕ) (y : ℕ) → (a ≡ at + (length label + width x)) × (l1 ≡ written l at (labelled label x))
+    → (r ≡ a + (length word + width y)) × (l2 ≡ written l1 a (labelled word y)) → (r ≡ at + (length label + width x + (length word + width y))) × (l2 ≡ written l at (paired label x word y))
+unfolding paired
+put-paired l l1 l2 at a r label x word y e f =
+    let p = e .0 in
+    let q = f .0 in
+    (omega (arith, p, q), f .1 ∙ rw (p, e .1) (sym (rw (written-append l at (labelled label x) (labelled word y), length-labelled label x))))
+
+-- ---- a text with its newline
+pub put-last : (l l1 : List ℕ) (at end : ℕ) (t : List ℕ) → end ≡ at + length t → l1 ≡ written l at t → set l1 end 10 ≡ written l at (t ++ (10 ∷ []))
+unfolding written
+put-last l l1 at end t e f = rw (e, f) (sym (written-append l at t (10 ∷ [])))
+
+pub length-ended : (l l1 : List ℕ) (at end : ℕ) (t : List ℕ) → l1 ≡ written l at t → length (set l1 end 10) ≡ length l
+length-ended l l1 at end t e = length-set l1 end 10 ∙ length-put l1 l at t e

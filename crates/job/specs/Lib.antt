@@ -2,3 +2,4 @@ pub mod JobBytes
 pub mod JobPoses
 pub mod Cable
 pub mod Spelling
+pub mod Telling

@@ -36,6 +36,9 @@ decimal x = digits 10 (width x) x
 unfoldable pub labelled : List ℕ → ℕ → List ℕ
 labelled label x = label ++ decimal x
 
+unfoldable pub paired : List ℕ → ℕ → List ℕ → ℕ → List ℕ
+paired label x word y = labelled label x ++ labelled word y
+
 -- a nan prints as the one nan, 7FF8000000000000
 unfoldable pub bitsOf : Float → ℕ
 bitsOf x = cond (Ieee.ne x x) 0x7ff8_0000_0000_0000 (toBits binary64 x)

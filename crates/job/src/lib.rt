@@ -3,12 +3,14 @@ mod job_bytes;
 mod lending;
 mod placing;
 mod spelling;
+mod telling;
 mod winding;
 
 use chain::Kinematics;
 pub use job_bytes::read_job;
 pub use lending::job_poses;
 use refusal::Refusal;
+pub use telling::answer_text;
 pub use winding::cable_number;
 
 // What the trailer says: where chain and poses start, counted from the first byte of the file, how many poses there are, and a word that must be zero.
@@ -44,5 +46,25 @@ pub struct Survey {
 
 pub enum Cable {
     Turns(u64),
+    Refused(Refusal),
+}
+
+// What the first line of a path's text says beside its length: how many poses were inserted, and the cable numbers of the two rotaries.
+pub struct Figures {
+    pub inserted: u64,
+    pub first: u64,
+    pub second: u64,
+}
+
+// How a job ended: with a divided path, or with a refusal, which may be one of a pose.
+pub enum Ended {
+    Divided(Figures),
+    Refused(Refusal),
+    AtPose(Refusal),
+}
+
+// How many bytes a text has, or that there is no room for it.
+pub enum Told {
+    Bytes(usize),
     Refused(Refusal),
 }

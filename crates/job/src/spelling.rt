@@ -31,7 +31,8 @@ fn put_digits(base: u64, n: usize, x: u64, out: &mut [u8], at: usize)
 
 // How many decimal digits x has.
 pub fn width(x: u64) -> usize
-    ensures { λ r. ⌜ r ≡ S.width x ⌝ }
+    ensures width { λ r. ⌜ r ≡ S.width x ⌝ }
+    ensures few { λ r. ⌜ r ≤ 20 ⌝ }
 {
     let mut rest = x;
     let mut n = 1;
@@ -72,6 +73,16 @@ pub fn put_labelled(label: &[u8], x: u64, out: &mut [u8], at: usize) -> usize
 {
     put_bytes(label, out, at);
     put_decimal(x, out, at + label.len())
+}
+
+// A word and a number, twice. Answers where they end.
+pub fn put_paired(label: &[u8], x: u64, word: &[u8], y: u64, out: &mut [u8], at: usize) -> usize
+    requires { ⌜ at + (length (now label) + S.width x + (length (now word) + S.width y)) ≤ length (now out) ⌝ }
+    ensures end { λ r. ⌜ r ≡ at + (length (now (label .entry)) + S.width x + (length (now (word .entry)) + S.width y)) ⌝ }
+    ensures lent { λ r. ⌜ now (out .exit) ≡ S.written (now (out .entry)) at (S.paired (now (label .entry)) x (now (word .entry)) y) ⌝ }
+{
+    let next = put_labelled(label, x, out, at);
+    put_labelled(word, y, out, next)
 }
 
 // The bit pattern; of every nan that of the one nan, though no answer has any.

@@ -3,7 +3,7 @@ use mathlib.Core.Path.{_≡_}
 use native.Mathlib.Omega.{arith}
 use borrow.Author.Needs.{needs}
 use lib.ListN.{length}
-use Rattle.job.proofs.Written.{Counting, counting-start, counting-step, counting-end}
+use Rattle.job.proofs.Written.{width-word, Counting, counting-start, counting-step, counting-end}
 use Rattle.job.proofs.spelling.width.Statement.{statement}
 use Rattle.job.proofs.spelling.width.Tie as tie
 
@@ -26,7 +26,10 @@ loop-again : tie.Need-loop-again Inv-loop μ-loop
 loop-again c = counting-step (c .loop-test .taken) (c .before .loop .inv)
 
 returns : tie.Need-returns Inv-loop μ-loop
-returns c = counting-end (c .loop-test .left) (c .before .loop .inv)
+returns c =
+    let e = counting-end (c .loop-test .left) (c .before .loop .inv) in
+    let few = width-word (c .before .before .args .x) (omega arith) in
+    (e, omega (arith, e, few))
 
 pub width-spec : {M : Type 1} → statement M
 width-spec = tie.close (tie.spec Inv-loop μ-loop loop-holds add-n loop-less loop-again returns)
