@@ -1,4 +1,4 @@
--- Bytes between the parts do not matter: two files of one length that agree on the trailer and on the chain of one that is read are read alike, and where they agree on its poses too, have the same poses.
+-- Bytes between the parts do not matter: two files of one length that agree on the trailer and on the chain, by its count, are read alike, refused ones too; and where they agree on the poses, they have the same poses.
 use Prim.Native.Nat.{ℕ, zero, suc, _+_, _-_, _*_, _^_, _≤_, _<_}
 use native.Mathlib.Omega.{arith}
 use mathlib.Core.Path.{_≡_, refl, sym, ap, _∙_}
@@ -8,20 +8,21 @@ use borrow.Author.Tests.{eqb-true, lt-ltb, le-ltb, lt-leb}
 use lib.Dec.{eqb}
 use lib.ListN.{length}
 use lib.Ieee.{Float}
+use Rattle.refusal.specs.declared.Refusal.{Refusal}
 use Rattle.refusal.specs.Numbers as Numbers
+use Rattle.chain.specs.declared.Checked.{Checked}
 use Rattle.chain.specs.declared.Checked.the-variants as Checked
 use Rattle.chain.specs.declared.Kinematics.{Kinematics}
 use Rattle.chain.specs.Bytes.{byteAt, littleEndian, numberAt, vectorAt, spare}
-use Rattle.chain.specs.Check.{demand}
+use Rattle.chain.specs.Check.{demand, then}
 use Rattle.chain.specs.ChainBytes.{chainLength, zeros, flag, rotaryFields, travelAt, rotaryAt, noRotary}
 use Rattle.chain.proofs.Bytes.{at-least-one}
-use Rattle.chain.proofs.Passing.{then-passed}
-use Rattle.job.specs.JobBytes.{trailer, sized, placesIn, placed, rotaryPart, secondPart, chainPart, secondIn, chainIn, jobAt, jobFields, jobFrom, readJob}
+use Rattle.job.specs.JobBytes.{trailer, sized, placesIn, placed, rotaryPart, secondPart, chainPart, secondIn, chainIn, jobAt, jobUnless, jobFields, jobFrom, readJob}
 use Rattle.job.specs.JobPoses.{numbersAt, posesOf}
 use Rattle.job.specs.declared.Places.{Places}
 use Rattle.job.specs.declared.Job.{Job}
 use Rattle.job.specs.declared.JobRead.the-variants as JobRead
-use Rattle.job.proofs.JobWithin.{parts, within, chain-at, rotaries}
+use Rattle.job.proofs.JobWithin.{placed-passed, within, chain-at, rotaries}
 
 -- the bytes from an offset on and before another are the same
 pub Agree : List ℕ → List ℕ → ℕ → ℕ → Type 0
@@ -192,19 +193,33 @@ module _ (w : ℕ) (wide : 72 ≤ w) (a b : List ℕ) (least : 40 ≤ length a) 
         same-job a b least long trailers p (chainIn w a p count),
       )
 
-  files-alike : 1 ≤ byteAt a (placesIn a .chain) → Agree a b (placesIn a .chain) (placesIn a .chain + chainLength w (byteAt a (placesIn a .chain))) → readJob w b ≡ readJob w a
+  -- what the trailer says is refused before the chain is read
+  refused-alike : (p : Places) (count : ℕ) (r : Refusal) → placed w a p count ≡ Checked.Refused r → jobFrom w b p count ≡ jobFrom w a p count
+  unfolding jobFrom jobFields
+  refused-alike p count r e = rw (long, by-length w a b p count long, e) (either-way (sized (length a)))
+    where
+      either-way : (t : Bool)
+          → jobUnless (then (demand t Numbers.malformed 0) (Checked.Refused r)) (jobAt b p (chainIn w b p count))
+          ≡ jobUnless (then (demand t Numbers.malformed 0) (Checked.Refused r)) (jobAt a p (chainIn w a p count))
+      either-way true = refl
+      either-way false = refl
+
+  either-alike : (p : Places) (count : ℕ) (c : Checked) → placed w a p count ≡ c → Agree a b (p .chain) (p .chain + chainLength w count) → jobFrom w b p count ≡ jobFrom w a p count
+  either-alike p count Checked.Passed e chains = jobs-alike p count (at-least-one count (placed-passed w a p count e .counted)) chains
+  either-alike p count (Checked.Refused r) e chains = refused-alike p count r e
+
+  pub files-alike : Agree a b (placesIn a .chain) (placesIn a .chain + chainLength w (byteAt a (placesIn a .chain))) → readJob w b ≡ readJob w a
   unfolding readJob
-  files-alike some chains =
+  files-alike chains =
       let p = placesIn a in
       let count : byteAt b (p .chain) ≡ byteAt a (p .chain) = sym (same-byte a b (p .chain) (p .chain + chainLength w (byteAt a (p .chain))) chains (p .chain) (omega arith) (omega arith)) in
-      rw (same-places a b least long trailers, count) (jobs-alike p (byteAt a (p .chain)) some chains)
+      rw (same-places a b least long trailers, count) (either-alike p (byteAt a (p .chain)) (placed w a p (byteAt a (p .chain))) refl chains)
 
+-- the same by a job that was read
 module _ (w : ℕ) (wide : 72 ≤ w) (a b : List ℕ) (j : Job) (read : readJob w a ≡ JobRead.Job j) (long : length b ≡ length a)
     (trailers : Agree a b (length a - 40) (length a)) (chains : Agree a b (j .«chain_at») (j .«chain_at» + chainLength w (j .chain .count))) where
   pub read-alike : readJob w b ≡ JobRead.Job j
-  read-alike =
-      let some = at-least-one _ (parts w a j read .counted) in
-      files-alike w wide a b (within w a j read .least) long trailers some (rw (chain-at w a j read, rotaries w a j read) at chains) ∙ read
+  read-alike = files-alike w wide a b (within w a j read .least) long trailers (rw (chain-at w a j read, rotaries w a j read) at chains) ∙ read
 
 pub poses-alike : (a b : List ℕ) (j : Job) → Agree a b (j .«poses_at») (j .«poses_at» + 48 * j .poses) → posesOf b j ≡ posesOf a j
 unfolding posesOf
