@@ -1,14 +1,13 @@
 -- What a job that was read says of its bytes: chain and poses lie before the trailer, and apart.
 use Prim.Native.Nat.{ℕ, _+_, _-_, _*_, _≤_, _<_}
 use native.Mathlib.Omega.{arith}
-use mathlib.Core.Path.{_≡_, refl, sym, _∙_, ap}
+use mathlib.Core.Path.{_≡_, refl}
 use mathlib.Core.Bool.{Bool, true, false, not, _||_, and-eq-true-iff, false≢true}
 use mathlib.Core.Logic.{_⊎_, inl, inr}
 use mathlib.Core.List.{List}
-use borrow.Author.Tests.{leb-true, ltb-true, ltb-false, eqb-true, not-true, lt-ltb, lt-leb}
+use borrow.Author.Tests.{leb-true, ltb-true, ltb-false, eqb-true, not-true}
 use lib.Dec.{leb, ltb, eqb}
 use lib.ListN.{length, getD}
-use Rattle.refusal.specs.declared.Refusal.{Refusal}
 use Rattle.refusal.specs.Numbers as Numbers
 use Rattle.chain.specs.declared.Checked.{Checked}
 use Rattle.chain.specs.declared.Checked.the-variants as Checked
@@ -17,7 +16,7 @@ use Rattle.chain.specs.Check.{demand, oneOrTwo}
 use Rattle.chain.specs.ChainBytes.{chainLength}
 use Rattle.chain.proofs.Bytes.{at-least-one}
 use Rattle.chain.proofs.Passing.{then-passed, demand-passed}
-use Rattle.job.specs.JobBytes.{four, trailer, sized, placesIn, chainEnd, posesEnd, apart, placed, chainPart, chainIn, jobAt, jobUnless, jobFields, jobFrom, readJob}
+use Rattle.job.specs.JobBytes.{four, trailer, sized, placesIn, chainEnd, posesEnd, apart, placed, chainIn, jobAt, jobUnless, jobFields, jobFrom, readJob}
 use Rattle.job.specs.declared.Places.{Places}
 use Rattle.job.specs.declared.Job.{Job}
 use Rattle.job.specs.declared.JobRead.{JobRead}

@@ -4,20 +4,19 @@ use native.Mathlib.Nat.{add-zero, add-suc, sub-zero}
 use native.Mathlib.Numerals.{add-one}
 use native.Mathlib.Omega.{arith}
 use mathlib.Core.Path.{_≡_, refl, sym, ap, _∙_}
-use mathlib.Core.Bool.{Bool, true, false}
+use mathlib.Core.Bool.{true, false}
 use mathlib.Core.List.{List, [], _∷_, _++_}
 use borrow.Author.Tests.{le-leb, lt-leb}
-use lib.ListN.{length, drop, set, length-set, length-append}
+use lib.ListN.{length, drop, set, length-append}
 use lib.Seq.{drop-drop}
 use lib.Ieee.{Float}
 use Rattle.lists.specs.Rows.{rows}
-use Rattle.lists.proofs.Rows.{length-rows}
 use Rattle.chain.specs.declared.Joints.{Joints}
 use Rattle.divide.specs.Items.{jointsFrom, jointsIn}
 use Rattle.job.specs.Cable.{jointSets}
 use Rattle.job.specs.Spelling.{written, width, decimal, number}
 use Rattle.job.specs.Telling.{newline, numbers, line, lines, linesLength, linesFit}
-use Rattle.job.proofs.Written.{length-written, written-append, length-decimal, length-number, width-word}
+use Rattle.job.proofs.Written.{length-written, written-append, length-decimal, length-number}
 
 -- ---- a line
 then-number : (l : List ℕ) (at : ℕ) (x : Float) (t : List ℕ) → written l at (number x ++ t) ≡ written (written l at (number x)) (at + 17) t

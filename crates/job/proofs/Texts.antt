@@ -1,9 +1,9 @@
 -- Laws of whole texts: their lengths, and what is put of them step by step.
-use Prim.Native.Nat.{ℕ, _+_, _-_, _*_, _/_, _≤_, _<_}
+use Prim.Native.Nat.{ℕ, _+_, _/_, _≤_, _<_}
 use native.Mathlib.Omega.{arith}
-use mathlib.Core.Path.{_≡_, refl, sym, ap, _∙_}
-use mathlib.Core.Bool.{Bool, true, false}
-use mathlib.Core.List.{List, [], _∷_, _++_}
+use mathlib.Core.Path.{_≡_, sym, ap, _∙_}
+use mathlib.Core.Bool.{true, false}
+use mathlib.Core.List.{List, [], _++_}
 use borrow.Author.Tests.{le-leb, lt-leb, leb-true, leb-false}
 use lib.ListN.{length, set, length-append}
 use lib.Ieee.{Float}
@@ -17,7 +17,7 @@ use Rattle.job.specs.Telling.{newline, posesWord, insertedWord, turnsWor
 use Rattle.job.specs.declared.Figures.{Figures}
 use Rattle.job.specs.declared.Told.{Told}
 use Rattle.job.specs.declared.Told.the-variants as Told
-use Rattle.job.proofs.Written.{length-written, written-append, length-labelled, length-paired, put-last}
+use Rattle.job.proofs.Written.{written-append, length-labelled, length-paired, put-last}
 use Rattle.job.proofs.Lines.{length-lines}
 
 -- ---- the first line

@@ -1,18 +1,18 @@
--- The whole turns in an angle: that half of a division of whole numbers is what the code computes, and that no larger number of turns fits.
-use Prim.Native.Nat.{ℕ, zero, suc, _+_, _-_, _*_, _/_, _^_, _≤_, _<_, min}
+-- The whole turns in an angle: the two divisions of the code are the one of the definition, and no larger number of turns fits.
+use Prim.Native.Nat.{ℕ, _+_, _*_, _/_, _≤_, _<_, min}
 use native.Mathlib.Nat.{div-div-eq-div-mul, div-lt-iff-lt-mul, le-div-iff-mul-le, div-mul-le-self}
 use native.Mathlib.Omega.{arith}
-use mathlib.Core.Path.{_≡_, refl, sym, ap, _∙_, subst}
-use mathlib.Core.Bool.{Bool, true, false, cond, _||_, _&&_, false≢true, and-eq-true-iff}
+use mathlib.Core.Path.{_≡_, refl, sym, _∙_, subst}
+use mathlib.Core.Bool.{Bool, true, false, _||_, _&&_, false≢true}
 use mathlib.Core.Logic.{_⊎_, inl, inr}
 use borrow.Author.Tests.{ltb-true, eqb-true, lt-ltb}
 use lib.Dec.{T, ltb, eqb}
-use lib.IntN.{ℤ, pos, negsuc}
-use lib.Ieee.{Float, nan, inf, fin, binary64, up, down, lt, le, eq, ofBits, toUnsigned}
+use lib.IntN.{ℤ, pos}
+use lib.Ieee.{Float, nan, inf, fin, up, down, lt, le, eq, ofBits, toUnsigned}
 use lib.Ieee.Fits.{down-pos}
 use Rattle.float.specs.Helpers.{sizeOf}
 use Rattle.chain.specs.Check.{within, mostTurned}
-use Rattle.job.specs.Cable.{Turned, turnsOf, turnsWithin}
+use Rattle.job.specs.Cable.{Turned, turnsOf}
 
 -- ---- an angle of at most 36,000 degrees
 either : (a b : ℕ) (s x y : Bool) → ltb a b ≡ x → eqb a b ≡ y → (x || (y && s)) ≡ true → a ≤ b

@@ -4,7 +4,7 @@ use mathlib.Core.List.{List, [], _∷_, _++_}
 use Prim.Native.Nat.{ℕ}
 use lib.ListN.{replicate}
 use lib.Ieee as Ieee
-use lib.Ieee.{Float, nan, binary64, ofBits, toBits}
+use lib.Ieee.{Float, binary64, ofBits, toBits}
 use Rattle.refusal.specs.Numbers as Numbers
 use Rattle.geometry.specs.Vector.{vector}
 use Rattle.chain.specs.declared.Joints.{Joints}

@@ -2,10 +2,9 @@
 -- A breach is 29 with the offset, in the file, of the first bad field; a count of rotaries other than 1 or 2 is 3, a foreign letter 4 with its rotary.
 use mathlib.Core.Bool.{Bool, not, cond, _&&_, _||_}
 use mathlib.Core.List.{List, [], _∷_}
-use Prim.Native.Nat.{ℕ, zero, suc, _+_, _-_, _*_, _^_}
+use Prim.Native.Nat.{ℕ, _+_, _-_, _*_, _^_}
 use lib.Dec.{ltb, leb, eqb}
 use lib.ListN.{length}
-use lib.Ieee.{Float}
 use Rattle.refusal.specs.Numbers as Numbers
 use Rattle.chain.specs.declared.Checked.{Checked}
 use Rattle.chain.specs.declared.Checked.the-variants as Checked

@@ -1,8 +1,7 @@
 -- The poses of a job in lent numbers, six for each: 20 where the output has no whole records, then the reader's refusals, then 28. A refusal keeps the output; after success what is left of it is +0.0.
-use mathlib.Core.Bool.{Bool, cond}
 use mathlib.Core.List.{List, [], _∷_}
 use Prim.Native.Nat.{ℕ, zero, suc, _+_, _*_, _%_}
-use lib.Dec.{ltb, leb, eqb}
+use lib.Dec.{leb, eqb}
 use lib.ListN.{length}
 use lib.Ieee.{Float}
 use Rattle.lists.specs.Padding.{padded}

@@ -1,7 +1,7 @@
 -- Numbers as bytes of a text: decimal, and the bit pattern of a float in hexadecimal.
 use mathlib.Core.Bool.{cond}
 use mathlib.Core.List.{List, [], _∷_, _++_}
-use Prim.Native.Nat.{ℕ, zero, suc, _+_, _*_, _/_, _%_}
+use Prim.Native.Nat.{ℕ, zero, suc, _+_, _/_, _%_}
 use lib.Dec.{ltb}
 use lib.ListN.{set}
 use lib.Ieee as Ieee

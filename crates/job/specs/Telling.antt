@@ -2,10 +2,9 @@
 -- A refusal: `refused`, its number, and where it is of a pose, `pose` and the index. Each line ends with a newline.
 use mathlib.Core.Bool.{Bool, cond}
 use mathlib.Core.List.{List, [], _∷_, _++_}
-use Prim.Native.Nat.{ℕ, zero, suc, _+_, _*_}
+use Prim.Native.Nat.{ℕ, zero, suc, _+_}
 use lib.Dec.{leb}
 use lib.ListN.{length}
-use lib.Ieee.{Float}
 use Rattle.refusal.specs.Numbers as Numbers
 use Rattle.chain.specs.declared.Joints.{Joints}
 use Rattle.job.specs.Spelling.{written, width, decimal, labelled, paired, number}

@@ -9,7 +9,6 @@ use crate::Job;
 use crate::JobRead;
 use crate::job_bytes::read_job;
 use chain::Checked;
-use chain::demand;
 use chain::number_at;
 use refusal::Refusal;
 

@@ -1,7 +1,5 @@
 // The cable number of a rotary on a path: how many whole turns its cable is wound at most. The term is document 01's.
-ghost use Prim.Native.Nat.{_+_, _≤_};
 ghost use mathlib.Core.Path.{_≡_};
-ghost use lib.ListN.{length};
 ghost use Rattle.job.specs.Cable as S;
 use crate::Cable;
 use crate::Survey;

@@ -1,6 +1,5 @@
 use Prim.Native.Nat.{_-_}
 use native.Mathlib.Omega.{arith}
-use lib.ListN.{length, length-set}
 use Rattle.job.proofs.Copying.{Copying, copying-start, copying-step, copying-end}
 use Rattle.job.proofs.lending.numbers_at.Statement.{statement}
 use Rattle.job.proofs.lending.numbers_at.Tie as tie

@@ -1,4 +1,3 @@
-use borrow.Author.Needs.{needs}
 use borrow.Author.Tests.{le-ltb, lt-ltb}
 use Rattle.job.specs.JobBytes.{sized}
 use Rattle.job.proofs.placing.sized.Statement.{statement}

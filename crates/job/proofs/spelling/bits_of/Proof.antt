@@ -1,4 +1,3 @@
-use borrow.Author.Needs.{needs}
 use Rattle.job.specs.Spelling.{bitsOf}
 use Rattle.float.proofs.RootNearby.{same-number}
 use Rattle.job.proofs.spelling.bits_of.Statement.{statement}

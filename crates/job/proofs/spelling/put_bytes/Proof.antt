@@ -1,7 +1,5 @@
-use Prim.Native.Nat.{_-_, _+_, _≤_}
-use mathlib.Core.Path.{_≡_}
+use Prim.Native.Nat.{_-_}
 use native.Mathlib.Omega.{arith}
-use borrow.Author.Needs.{needs}
 use lib.ListN.{length}
 use Rattle.job.proofs.Written.{Putting, putting-start, putting-step, putting-end}
 use lib.ListN.{length}

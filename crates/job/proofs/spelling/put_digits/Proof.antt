@@ -1,8 +1,4 @@
-use Prim.Native.Nat.{_-_, _+_, _≤_}
-use mathlib.Core.Path.{_≡_}
 use native.Mathlib.Omega.{arith}
-use borrow.Author.Needs.{needs}
-use lib.ListN.{length}
 use Rattle.job.proofs.Written.{Digits, digit-few, digits-start, digits-step, digits-end}
 use Rattle.job.proofs.spelling.put_digits.Statement.{statement}
 use Rattle.job.proofs.spelling.put_digits.Tie as tie

@@ -1,8 +1,4 @@
-use Prim.Native.Nat.{_-_, _+_, _≤_}
-use mathlib.Core.Path.{_≡_}
 use native.Mathlib.Omega.{arith}
-use borrow.Author.Needs.{needs}
-use lib.ListN.{length}
 use Rattle.job.proofs.Written.{width-word, Counting, counting-start, counting-step, counting-end}
 use Rattle.job.proofs.spelling.width.Statement.{statement}
 use Rattle.job.proofs.spelling.width.Tie as tie

@@ -1,8 +1,6 @@
-use Prim.Native.Nat.{_-_, _+_, _≤_}
+use Prim.Native.Nat.{_-_}
 use mathlib.Core.Path.{sym}
 use native.Mathlib.Omega.{arith}
-use borrow.Author.Needs.{needs}
-use lib.ListN.{length}
 use Rattle.job.proofs.Lines.{Fitting, fitting-start, fitting-step, fitting-none, fitting-end, no-room}
 use Rattle.job.proofs.telling.lines_fit.Statement.{statement}
 use Rattle.job.proofs.telling.lines_fit.Tie as tie

@@ -1,8 +1,5 @@
-use Prim.Native.Nat.{_-_, _+_, _≤_}
-use mathlib.Core.Path.{_≡_}
+use Prim.Native.Nat.{_-_}
 use native.Mathlib.Omega.{arith}
-use borrow.Author.Needs.{needs}
-use lib.ListN.{length}
 use Rattle.job.proofs.Lines.{Lining, lining-start, lining-room, lining-step, lining-end}
 use Rattle.job.proofs.telling.put_lines.Statement.{statement}
 use Rattle.job.proofs.telling.put_lines.Tie as tie

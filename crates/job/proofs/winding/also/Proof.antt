@@ -1,4 +1,3 @@
-use borrow.Author.Needs.{needs}
 use Rattle.job.specs.Cable.{also}
 use Rattle.job.proofs.winding.also.Statement.{statement}
 use Rattle.job.proofs.winding.also.Tie as tie

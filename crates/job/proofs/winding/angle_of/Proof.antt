@@ -1,4 +1,3 @@
-use borrow.Author.Needs.{needs}
 use borrow.Author.Tests.{eq-eqb, ne-eqb}
 use Rattle.job.specs.Cable.{angleOf}
 use Rattle.job.proofs.winding.angle_of.Statement.{statement}
