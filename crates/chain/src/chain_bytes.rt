@@ -109,7 +109,7 @@ pub fn rotary_at(bytes: &[u8], at: usize) -> RotaryJoint
 }
 
 // What stands for a rotary that is not there.
-fn no_rotary() -> RotaryJoint
+pub fn no_rotary() -> RotaryJoint
     ensures { λ r. ⌜ r ≡ S.noRotary ⌝ }
 {
     let zero = Vec3 {

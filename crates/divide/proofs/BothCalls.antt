@@ -25,6 +25,7 @@ use Rattle.path.specs.Solving.{PathAnswer, Along, AtPose, Kept, jointNumbers, u
 use Rattle.path.proofs.Along.{along-long, refused-pose, solved-along, along-one, at-pose-one, kept-one, kept-along, at-pose-along, at-pose-kept}
 use Rattle.path.proofs.Room.{room-passed}
 use Rattle.divide.specs.declared.Division.{Division}
+use Rattle.divide.specs.declared.Division.the-variants as Division
 use Rattle.divide.specs.declared.Division.the-variants.{Refused}
 use Rattle.divide.specs.declared.Tolerances.{Tolerances}
 use Rattle.divide.specs.Checking.{divisionCheck}
@@ -76,6 +77,7 @@ module _ (k : Kinematics) (lent : List Float) (start : Start) (cone : Float) (ro
 cleared-by-length : (answer : DivisionAnswer) (o o' : List Float) → length o' ≡ length o → jointsLeft (clearing answer) o' ≡ jointsLeft (clearing answer) o
 unfolding jointsLeft
 cleared-by-length (Ways.Kept r) o o' e = rw e
+cleared-by-length (Ways.AtPose r) o o' e = rw e
 cleared-by-length (Ways.Cleared r) o o' e = rw e
 cleared-by-length (Ways.Halved a) o o' e = joints-by-length a o o' e
 
@@ -114,7 +116,7 @@ module _ (k : Kinematics) (lent : List Float) (start : Start) (cone : Float) (to
 
   -- refused at a pose
   pub both-at-pose : {said : Division} {poses joints : List Float} (r : Refusal) → bothCheck k start cone (length lent) (length p₀) (length j₀) ≡ Checked.Passed
-      → checkedIn (solveChecked k lent start cone) ≡ Checked.Refused r → said ≡ Refused r
+      → checkedIn (solveChecked k lent start cone) ≡ Checked.Refused r → said ≡ Division.AtPose r
       → poses ≡ padded (length p₀) nought (take 0 p₀) → joints ≡ pathOver (solveChecked k lent start cone) j₀ → So said poses joints
   unfolding solveAndDivide posesLeft jointsLeft pathOver
   both-at-pose {said} {poses} {joints} r e h s u v =
@@ -129,7 +131,7 @@ module _ (k : Kinematics) (lent : List Float) (start : Start) (cone : Float) (to
             rw f v',
             record {
               kept = λ q w. absurd (at-pose-kept (sym f ∙ w));
-              at-pose = λ q w. (s ∙ ap Refused (at-pose-one (sym f ∙ w)), (zero-all (length p₀) poses u', zero-all (length j₀) joints v'));
+              at-pose = λ q w. (s ∙ ap Division.AtPose (at-pose-one (sym f ∙ w)), (zero-all (length p₀) poses u', zero-all (length j₀) joints v'));
               refused = λ l q w c. absurd (at-pose-along (sym f ∙ w));
               begun = λ l w c. absurd (at-pose-along (sym f ∙ w));
               price = λ l w. absurd (at-pose-along (sym f ∙ w));

@@ -23,7 +23,7 @@ use Rattle.refusal.specs.declared.Refusal.{Refusal}
 use Rattle.divide.specs.declared.Divided.{Divided}
 use Rattle.divide.specs.declared.Divided.the-variants.{Done, TooMany, NoSpace}
 use Rattle.divide.specs.declared.Division.{Division}
-use Rattle.divide.specs.declared.Division.the-variants.{Refused, Ended}
+use Rattle.divide.specs.declared.Division.the-variants.{Refused, AtPose, Ended}
 use Rattle.divide.specs.declared.Item.{Item}
 use Rattle.divide.specs.declared.Tolerances.{Tolerances}
 use Rattle.divide.specs.Items.{jointsFrom, poseNumbers, item, itemsIn}
@@ -35,28 +35,33 @@ use Rattle.divide.proofs.Price.{Answered}
 -- ---- the cases of an answer
 abbrev isEnded : Division → Bool
 isEnded (Refused r) = false
+isEnded (AtPose r) = false
 isEnded (Ended d) = true
 
 abbrev isDone : Division → Bool
 isDone (Refused r) = false
+isDone (AtPose r) = false
 isDone (Ended (Done n)) = true
 isDone (Ended (TooMany n)) = false
 isDone (Ended (NoSpace n)) = false
 
 abbrev isMany : Division → Bool
 isMany (Refused r) = false
+isMany (AtPose r) = false
 isMany (Ended (Done n)) = false
 isMany (Ended (TooMany n)) = true
 isMany (Ended (NoSpace n)) = false
 
 abbrev isFull : Division → Bool
 isFull (Refused r) = false
+isFull (AtPose r) = false
 isFull (Ended (Done n)) = false
 isFull (Ended (TooMany n)) = false
 isFull (Ended (NoSpace n)) = true
 
 abbrev countIn : Division → ℕ
 countIn (Refused r) = 0
+countIn (AtPose r) = 0
 countIn (Ended (Done n)) = n
 countIn (Ended (TooMany n)) = n
 countIn (Ended (NoSpace n)) = n

@@ -25,6 +25,7 @@ use Rattle.path.specs.Solving.{Along, AtPose, Kept, jointNumbers, solvePath}
 use Rattle.halving.specs.Halving.{step, Steps, Needs}
 use Rattle.divide.specs.declared.Divided.the-variants.{Done, TooMany, NoSpace}
 use Rattle.divide.specs.declared.Division.{Division}
+use Rattle.divide.specs.declared.Division.the-variants as Division
 use Rattle.divide.specs.declared.Division.the-variants.{Refused, Ended}
 use Rattle.divide.specs.declared.Item.{Item}
 use Rattle.divide.specs.declared.Tolerances.{Tolerances}
@@ -87,6 +88,7 @@ ZeroBehind n poses joints = (drop (n * 6) poses ≡ replicate (length poses - n 
 -- "Where the checks before the first test pass": but for that of the space, which is said where it is meant
 abbrev pub Checks : Division → Type 0
 Checks (Refused r) = ⊥
+Checks (Division.AtPose r) = ⊥
 Checks (Ended d) = Unit {0}
 
 -- ---- the answer of a division of g into a space for so many poses, and the two lent outputs afterwards
@@ -123,7 +125,7 @@ pub record SolvedAndDivided (k : Kinematics) (lent : List Float) (start : Start)
   -- what keeps all in `solve_path` keeps all here
   pub kept : (r : Refusal) → solvedPath k lent start cone (length poses₀) (length joints₀) ≡ Kept r → (answer ≡ Refused r) × ((poses ≡ poses₀) × (joints ≡ joints₀))
   -- a refusal at a pose leaves +0.0
-  pub at-pose : (r : Refusal) → solvedPath k lent start cone (length poses₀) (length joints₀) ≡ AtPose r → (answer ≡ Refused r) × AllZero poses joints
+  pub at-pose : (r : Refusal) → solvedPath k lent start cone (length poses₀) (length joints₀) ≡ AtPose r → (answer ≡ Division.AtPose r) × AllZero poses joints
   -- and so does division's
   pub refused : (l : List Joints) (r : Refusal) → solvedPath k lent start cone (length poses₀) (length joints₀) ≡ Along l
       → divisionCheck k tol lent (flat jointNumbers l) (length poses₀) (length joints₀) ≡ Checked.Refused r → (answer ≡ Refused r) × AllZero poses joints

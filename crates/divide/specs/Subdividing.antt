@@ -17,7 +17,7 @@ use Rattle.chain.specs.declared.Prepared.{Prepared}
 use Rattle.chain.specs.Check.{demand, firstRefusal}
 use Rattle.chain.specs.Prepared.{prepared}
 use Rattle.path.specs.declared.Start.{Start}
-use Rattle.path.specs.Solving.{PathAnswer, Along, AtPose, jointNumbers, wholeRecords, solveCheck, solvePath}
+use Rattle.path.specs.Solving.{PathAnswer, Along, jointNumbers, wholeRecords, solveCheck, solvePath}
 use Rattle.path.specs.Solving as Path
 use Rattle.halving.specs.Halving.{Answer, Done, NoSpace}
 use Rattle.divide.specs.declared.Division.{Division}
@@ -28,25 +28,29 @@ use Rattle.divide.specs.Items.{itemsIn}
 use Rattle.divide.specs.Checking.{divisionCheck}
 use Rattle.divide.specs.Dividing.{division, dividedIn, posesOver, jointsOver}
 
--- ---- what a call that divides comes to: a refusal that keeps what is lent, one that leaves +0.0 in both outputs, or what the halving comes to
+-- ---- what a call that divides comes to: a refusal that keeps what is lent, one at a pose or after it that leaves +0.0 in both outputs, or what the halving comes to
 pub data DivisionAnswer : Type 0 where
   Kept : Refusal → DivisionAnswer
+  AtPose : Refusal → DivisionAnswer
   Cleared : Refusal → DivisionAnswer
   Halved : Answer Item → DivisionAnswer
 
 abbrev pub divisionIn : DivisionAnswer → Division
 divisionIn (Kept r) = Division.Refused r
+divisionIn (AtPose r) = Division.AtPose r
 divisionIn (Cleared r) = Division.Refused r
 divisionIn (Halved answer) = Division.Ended (dividedIn answer)
 
 -- the two lent outputs afterwards
 unfoldable pub posesLeft : DivisionAnswer → List Float → List Float
 posesLeft (Kept r) out = out
+posesLeft (AtPose r) out = replicate (length out) nought
 posesLeft (Cleared r) out = replicate (length out) nought
 posesLeft (Halved answer) out = posesOver answer out
 
 unfoldable pub jointsLeft : DivisionAnswer → List Float → List Float
 jointsLeft (Kept r) out = out
+jointsLeft (AtPose r) out = replicate (length out) nought
 jointsLeft (Cleared r) out = replicate (length out) nought
 jointsLeft (Halved answer) out = jointsOver answer out
 
@@ -82,12 +86,13 @@ subdividePath k tol poses joints roomPoses roomJoints =
 -- ---- the call of both: solve_path's refusals, then division's, and else what division gives for the given poses and solve_path's joints. What keeps all in solve_path keeps all here; every other refusal leaves +0.0.
 abbrev pub clearing : DivisionAnswer → DivisionAnswer
 clearing (Kept r) = Cleared r
+clearing (AtPose r) = AtPose r
 clearing (Cleared r) = Cleared r
 clearing (Halved answer) = Halved answer
 
 abbrev pub afterSolving : PathAnswer → (List Joints → DivisionAnswer) → DivisionAnswer
 afterSolving (Along l) divided = clearing (divided l)
-afterSolving (AtPose r) divided = Cleared r
+afterSolving (Path.AtPose r) divided = AtPose r
 afterSolving (Path.Kept r) divided = Kept r
 
 -- every buffer has whole records

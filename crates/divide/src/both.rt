@@ -92,7 +92,7 @@ pub fn solve_and_divide(
     let solved = path::solve_checked(k, given, start, cone, joints);
     if let Checked::Refused(r) = solved {
         path::clear_from(poses, 0);
-        return Division::Refused(r);
+        return Division::AtPose(r);
     }
     divide_found(k, tol, given, poses, joints)
 }

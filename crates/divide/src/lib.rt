@@ -17,6 +17,7 @@ pub use checking::four_whole;
 pub use filling::fill;
 pub use filling::fill_pair;
 use geometry::Vec3;
+pub use items::joints_in;
 use refusal::Refusal;
 pub use subdividing::subdivide_path;
 pub use testing::joints_unchanged;
@@ -68,9 +69,10 @@ pub enum Divided {
     NoSpace(u64),
 }
 
-// What a call that divides answers: a refusal before the first test, or how the division ended.
+// What a call that divides answers: a refusal before the first test, one at a pose that was to be solved, or how the division ended.
 pub enum Division {
     Refused(Refusal),
+    AtPose(Refusal),
     Ended(Divided),
 }
 

@@ -12,7 +12,7 @@ use Rattle.path.specs.declared.Start.{Start}
 use Rattle.divide.specs.declared.Divided.{Divided}
 use Rattle.divide.specs.declared.Divided.the-variants.{Done, TooMany, NoSpace}
 use Rattle.divide.specs.declared.Division.{Division}
-use Rattle.divide.specs.declared.Division.the-variants.{Refused, Ended}
+use Rattle.divide.specs.declared.Division.the-variants.{Refused, AtPose, Ended}
 use Rattle.divide.specs.declared.Tolerances.{Tolerances}
 use Rattle.divide.specs.Checking.{fourWhole}
 use Rattle.divide.specs.Subdividing.{DivisionAnswer, Kept, divisionIn, subdividePath, threeWhole, solveAndDivide}
@@ -32,18 +32,22 @@ endedCount (NoSpace n) = n
 
 abbrev pub divisionNumber : Division → ℕ
 divisionNumber (Refused r) = r .number
+divisionNumber (AtPose r) = r .number
 divisionNumber (Ended d) = endedNumber d
 
 abbrev pub insertedIn : Division → ℕ
 insertedIn (Refused r) = 0
+insertedIn (AtPose r) = 0
 insertedIn (Ended d) = endedCount d
 
 abbrev pub divisionPlace : Division → ℕ
 divisionPlace (Refused r) = r .at
+divisionPlace (AtPose r) = r .at
 divisionPlace (Ended d) = 0
 
 abbrev pub divisionLetter : Division → ℕ
 divisionLetter (Refused r) = r .letter
+divisionLetter (AtPose r) = r .letter
 divisionLetter (Ended d) = 0
 
 abbrev pub lengthsRefused : Division

@@ -94,6 +94,19 @@ fn ended_count(said: Divided) -> u64
     }
 }
 
+// A refusal's number, its place and letter written.
+fn hand_refusal(r: Refusal, inserted: &mut u64, at: &mut u64, letter: &mut u8) -> u32
+    ensures number { λ n. ⌜ n ≡ r .number ⌝ }
+    ensures count { λ n. ⌜ now (inserted .exit) ≡ 0 ⌝ }
+    ensures place { λ n. ⌜ now (at .exit) ≡ r .at ⌝ }
+    ensures named { λ n. ⌜ now (letter .exit) ≡ r .letter ⌝ }
+{
+    *inserted = 0;
+    *at = r.at;
+    *letter = r.letter;
+    r.number
+}
+
 // The number, and the count, place and letter written.
 fn hand_over(said: Division, inserted: &mut u64, at: &mut u64, letter: &mut u8) -> u32
     ensures number { λ n. ⌜ n ≡ S.divisionNumber said ⌝ }
@@ -102,12 +115,8 @@ fn hand_over(said: Division, inserted: &mut u64, at: &mut u64, letter: &mut u8) 
     ensures named { λ n. ⌜ now (letter .exit) ≡ S.divisionLetter said ⌝ }
 {
     match said {
-        Division::Refused(r) => {
-            *inserted = 0;
-            *at = r.at;
-            *letter = r.letter;
-            r.number
-        }
+        Division::Refused(r) => hand_refusal(r, inserted, at, letter),
+        Division::AtPose(r) => hand_refusal(r, inserted, at, letter),
         Division::Ended(d) => {
             *inserted = ended_count(d);
             *at = 0;

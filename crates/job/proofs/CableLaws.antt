@@ -1,0 +1,143 @@
+-- The cable number is the largest: of joint sets within the limits of size, its turns are at most the size of some angle, and no more turns are.
+use Prim.Native.Nat.{ℕ, _%_, _≤_, _<_}
+use native.Mathlib.Omega.{arith}
+use mathlib.Core.Path.{_≡_, refl, sym, _∙_}
+use mathlib.Core.Bool.{Bool, true, false, cond, _&&_, and-eq-true-iff}
+use mathlib.Core.Logic.{_⊎_, inl, inr, ⊎-elim}
+use mathlib.Core.List.{List, [], _∷_}
+use borrow.Author.Tests.{ltb-true, ltb-false, lt-ltb, le-ltb}
+use lib.Dec.{ltb, eqb}
+use lib.ListN.{length}
+use lib.Ieee.{Float}
+use Rattle.lists.specs.Fold.{fold}
+use Rattle.lists.specs.Search.{all}
+use Rattle.refusal.specs.Numbers as Numbers
+use Rattle.chain.specs.declared.Checked.{Checked}
+use Rattle.chain.specs.declared.Checked.the-variants as Checked
+use Rattle.chain.specs.declared.Kinematics.{Kinematics}
+use Rattle.chain.specs.declared.Joints.{Joints}
+use Rattle.chain.specs.Check.{demand, chainCheck, pivotsWithin, allWithin, within, jointsWithin, farthest, mostTurned}
+use Rattle.chain.proofs.Passing.{then-passed, demand-passed}
+use Rattle.job.specs.Cable.{jointSets, angleOf, Turned, turnsOf, turnsWithin, larger, mostTurns, survey, cableSizes, cableCheck, cableUnless, cableOf, cableNumber, Some, Largest}
+use Rattle.job.specs.declared.Survey.{Survey}
+use Rattle.job.specs.declared.Cable.the-variants as Cable
+use Rattle.job.proofs.Turns.{turned-of, turned-most}
+
+-- ---- the larger of two
+larger-is : (a b : ℕ) (t : Bool) → ltb a b ≡ t → (a ≤ cond t b a) × ((b ≤ cond t b a) × ((cond t b a ≡ a) ⊎ (cond t b a ≡ b)))
+larger-is a b true e = let h = ltb-true a b e in (omega (arith, h), (omega arith, inr refl))
+larger-is a b false e = let h = ltb-false a b e in (omega arith, (omega (arith, h), inl refl))
+
+-- ---- the largest of a list
+module _ {A : Type 0} (f : A → ℕ) where
+  abbrev step : ℕ → A → ℕ
+  step k x = larger k (f x)
+
+  at-least : (k : ℕ) (l : List A) → k ≤ fold step k l
+  unfolding fold larger
+  at-least k [] = omega arith
+  at-least k (x ∷ l) =
+      let h = at-least (larger k (f x)) l in
+      let g = larger-is k (f x) (ltb k (f x)) refl .0 in
+      omega (arith, h, g)
+
+  found : (k : ℕ) (l : List A) → (fold step k l ≡ k) ⊎ Some (λ (x : A). f x ≡ fold step k l) l
+  unfolding fold larger Some
+  found k [] = inl refl
+  found k (x ∷ l) = by-rest (found (larger k (f x)) l) (larger-is k (f x) (ltb k (f x)) refl .1 .1)
+    where
+      by-rest : (fold step (larger k (f x)) l ≡ larger k (f x)) ⊎ Some (λ (y : A). f y ≡ fold step (larger k (f x)) l) l → (larger k (f x) ≡ k) ⊎ (larger k (f x) ≡ f x)
+          → (fold step (larger k (f x)) l ≡ k) ⊎ ((f x ≡ fold step (larger k (f x)) l) ⊎ Some (λ (y : A). f y ≡ fold step (larger k (f x)) l) l)
+      by-rest (inr s) w = inr (inr s)
+      by-rest (inl e) (inl g) = inl (e ∙ g)
+      by-rest (inl e) (inr g) = inr (inl (sym (e ∙ g)))
+
+  none-larger : (n k : ℕ) (l : List A) → Some (λ (x : A). n ≤ f x) l → n ≤ fold step k l
+  unfolding fold larger Some
+  none-larger n k [] h = absurd h
+  none-larger n k (x ∷ l) (inl h) =
+      let g = larger-is k (f x) (ltb k (f x)) refl .1 .0 in
+      let s = at-least (larger k (f x)) l in
+      omega (arith, h, g, s)
+  none-larger n k (x ∷ l) (inr h) = none-larger n (larger k (f x)) l h
+
+-- ---- angles within 36,000 degrees
+angle-within : (rotary : ℕ) (j : Joints) → jointsWithin j ≡ true → within (angleOf rotary j) mostTurned ≡ true
+unfolding jointsWithin angleOf
+angle-within rotary j e = by-index (eqb rotary 0)
+  where
+    both : (allWithin (j .xyz) farthest && within (j .a0) mostTurned ≡ true) × (within (j .a1) mostTurned ≡ true)
+    both = and-eq-true-iff (allWithin (j .xyz) farthest && within (j .a0) mostTurned) (within (j .a1) mostTurned) .0 e
+
+    by-index : (t : Bool) → within (cond t (j .a0) (j .a1)) mostTurned ≡ true
+    by-index true = and-eq-true-iff (allWithin (j .xyz) farthest) (within (j .a0) mostTurned) .0 (both .0) .1
+    by-index false = both .1
+
+module _ (rotary : ℕ) where
+  turns-are : (j : Joints) → jointsWithin j ≡ true → turnsWithin (angleOf rotary j) ≡ turnsOf (angleOf rotary j)
+  unfolding turnsWithin
+  turns-are j e = rw (angle-within rotary j e)
+
+  counted : (n : ℕ) (l : List Joints) → all jointsWithin l ≡ true → Some (λ (j : Joints). Turned n (angleOf rotary j)) l → Some (λ (j : Joints). n ≤ turnsWithin (angleOf rotary j)) l
+  unfolding Some all
+  counted n [] e h = h
+  counted n (j ∷ l) e (inl t) = inl (rw (turns-are j (and-eq-true-iff (jointsWithin j) (all jointsWithin l) .0 e .0)) (turned-most n (angleOf rotary j) t))
+  counted n (j ∷ l) e (inr s) = inr (counted n l (and-eq-true-iff (jointsWithin j) (all jointsWithin l) .0 e .1) s)
+
+  at-turns : (k : ℕ) (j : Joints) → turnsOf (angleOf rotary j) ≡ k → (k ≡ 0) ⊎ Turned k (angleOf rotary j)
+  at-turns k j g = by-turns (turned-of (angleOf rotary j))
+    where
+      by-turns : (turnsOf (angleOf rotary j) ≡ 0) ⊎ Turned (turnsOf (angleOf rotary j)) (angleOf rotary j) → (k ≡ 0) ⊎ Turned k (angleOf rotary j)
+      by-turns (inl z) = inl (sym g ∙ z)
+      by-turns (inr t) = inr (rw g at t)
+
+  reached : (k : ℕ) (l : List Joints) → all jointsWithin l ≡ true → Some (λ (j : Joints). turnsWithin (angleOf rotary j) ≡ k) l → (k ≡ 0) ⊎ Some (λ (j : Joints). Turned k (angleOf rotary j)) l
+  unfolding Some all
+  reached k [] e h = absurd h
+  reached k (j ∷ l) e (inl g) =
+      let p = and-eq-true-iff (jointsWithin j) (all jointsWithin l) .0 e .0 in
+      ⊎-elim (λ z. inl z) (λ t. inr (inl t)) (at-turns k j (sym (turns-are j p) ∙ g))
+  reached k (j ∷ l) e (inr s) = ⊎-elim (λ z. inl z) (λ t. inr (inr t)) (reached k l (and-eq-true-iff (jointsWithin j) (all jointsWithin l) .0 e .1) s)
+
+  -- of a path that passes the checks
+  pub most-largest : (l : List Joints) → all jointsWithin l ≡ true → Largest rotary l (mostTurns rotary l)
+  unfolding mostTurns
+  most-largest l e = record {
+    reached = by-found (found (λ (j : Joints). turnsWithin (angleOf rotary j)) 0 l);
+    largest = λ n h. none-larger (λ (j : Joints). turnsWithin (angleOf rotary j)) n 0 l (counted n l e h);
+  }
+    where
+      by-found : (fold (λ (n : ℕ) (j : Joints). larger n (turnsWithin (angleOf rotary j))) 0 l ≡ 0)
+          ⊎ Some (λ (j : Joints). turnsWithin (angleOf rotary j) ≡ fold (λ (n : ℕ) (i : Joints). larger n (turnsWithin (angleOf rotary i))) 0 l) l
+          → (fold (λ (n : ℕ) (j : Joints). larger n (turnsWithin (angleOf rotary j))) 0 l ≡ 0)
+          ⊎ Some (λ (j : Joints). Turned (fold (λ (n : ℕ) (i : Joints). larger n (turnsWithin (angleOf rotary i))) 0 l) (angleOf rotary j)) l
+      by-found (inl z) = inl z
+      by-found (inr s) = reached _ l e s
+
+-- ---- the entry
+accepted : (c : Checked) (k n : ℕ) → cableUnless c k ≡ Cable.Turns n → (c ≡ Checked.Passed) × (n ≡ k)
+accepted Checked.Passed k n e = (refl, cc)
+accepted (Checked.Refused r) k n e = (cc, cc)
+
+sets-within : (k : Kinematics) (numbers : ℕ) (s : Survey) → cableCheck k numbers s ≡ Checked.Passed → s .within ≡ true
+unfolding cableCheck cableSizes
+sets-within k numbers s e =
+    let a = then-passed (demand (eqb (numbers % 5) 0) Numbers.lengthsDiffer 0) _ e in
+    let b = then-passed (chainCheck k) _ (a .1) in
+    let c = then-passed (demand (s .finite) Numbers.notFinite 0) _ (b .1) in
+    and-eq-true-iff (pivotsWithin k) (s .within) .0 (demand-passed _ _ _ (c .1)) .1
+
+-- what is answered of a rotary that the chain has is the largest; of another it is 0
+module _ (k : Kinematics) (joints : List Float) (rotary n : ℕ) (answered : cableNumber k joints rotary ≡ Cable.Turns n) where
+  given : (cableCheck k (length joints) (survey rotary (jointSets joints)) ≡ Checked.Passed) × (n ≡ cond (ltb rotary (k .count)) (mostTurns rotary (jointSets joints)) 0)
+  unfolding cableNumber cableOf survey
+  given = accepted (cableCheck k (length joints) (survey rotary (jointSets joints))) _ n answered
+
+  pub cable-largest : rotary < k .count → Largest rotary (jointSets joints) n
+  unfolding survey
+  cable-largest h =
+      let e : n ≡ mostTurns rotary (jointSets joints) = rw (lt-ltb rotary (k .count) h) at (given .1) in
+      rw e (most-largest rotary (jointSets joints) (sets-within k (length joints) (survey rotary (jointSets joints)) (given .0)))
+
+  pub cable-none : k .count ≤ rotary → n ≡ 0
+  cable-none h = rw (le-ltb rotary (k .count) h) at (given .1)

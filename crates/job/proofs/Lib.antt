@@ -1,0 +1,9 @@
+pub mod JobWithin
+pub mod Copying
+pub mod JobBetween
+pub mod Turns
+pub mod Surveying
+pub mod CableLaws
+pub mod Written
+pub mod Lines
+pub mod Texts

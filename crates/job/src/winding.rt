@@ -1,0 +1,114 @@
+// The cable number of a rotary on a path: how many whole turns its cable is wound at most. The term is document 01's.
+ghost use mathlib.Core.Path.{_≡_};
+ghost use Rattle.job.specs.Cable as S;
+use crate::Cable;
+use crate::Survey;
+use chain::Checked;
+use chain::Joints;
+use chain::Kinematics;
+use chain::demand;
+use chain::then;
+
+// The whole turns in an angle of at most 36,000 degrees; of any other, which a check refuses, none.
+fn turns_within(angle: f64) -> u64
+    ensures { λ r. ⌜ r ≡ S.turnsWithin angle ⌝ }
+{
+    if chain::within(angle, 36000.0) {
+        let size = float::size(angle);
+        return std::num::truncating_f64_to_u64(size) / 360;
+    }
+    0
+}
+
+fn angle_of(rotary: usize, j: Joints) -> f64
+    ensures { λ r. ⌜ r ≡ S.angleOf rotary j ⌝ }
+{
+    if rotary == 0 {
+        return j.a0;
+    }
+    j.a1
+}
+
+fn larger(a: u64, b: u64) -> u64
+    ensures { λ r. ⌜ r ≡ S.larger a b ⌝ }
+{
+    if a < b {
+        return b;
+    }
+    a
+}
+
+fn also(a: bool, b: bool) -> bool
+    ensures { λ r. ⌜ r ≡ S.also a b ⌝ }
+{
+    if a {
+        return b;
+    }
+    false
+}
+
+// One joint set more.
+fn surveyed(rotary: usize, s: Survey, j: Joints) -> Survey
+    ensures { λ r. ⌜ r ≡ S.surveyed rotary s j ⌝ }
+{
+    let finite = also(s.finite, chain::joints_finite(j));
+    let within = also(s.within, chain::joints_within(j));
+    let turns = larger(s.turns, turns_within(angle_of(rotary, j)));
+    Survey {
+        finite,
+        within,
+        turns,
+    }
+}
+
+fn survey(rotary: usize, joints: &[f64]) -> Survey
+    ensures { λ r. ⌜ r ≡ S.survey rotary (S.jointSets (now (joints .entry))) ⌝ }
+{
+    let n = joints.len() / 5;
+    let mut s = Survey {
+        finite: true,
+        within: true,
+        turns: 0,
+    };
+    let mut i = 0;
+    while i < n {
+        let j = divide::joints_in(joints, i * 5);
+        s = surveyed(rotary, s, j);
+        i += 1;
+    }
+    s
+}
+
+fn cable_sizes(k: Kinematics, within: bool) -> bool
+    ensures { λ r. ⌜ r ≡ S.cableSizes k within ⌝ }
+{
+    if chain::pivots_within(k) {
+        return within;
+    }
+    false
+}
+
+fn cable_check(k: Kinematics, numbers: usize, s: Survey) -> Checked
+    ensures { λ r. ⌜ r ≡ S.cableCheck k numbers s ⌝ }
+{
+    let records = demand(numbers % 5 == 0, refusal::LENGTHS_DIFFER, 0);
+    let chain = chain::chain_check(k);
+    let finite = demand(s.finite, refusal::NOT_FINITE, 0);
+    let sizes = demand(cable_sizes(k, s.within), refusal::TOO_LARGE, 0);
+    then(records, then(chain, then(finite, sizes)))
+}
+
+// The cable number of the rotary with that index, 0 of one that the chain lacks.
+pub fn cable_number(k: Kinematics, joints: &[f64], rotary: usize) -> Cable
+    ensures { λ r. ⌜ r ≡ S.cableNumber k (now (joints .entry)) rotary ⌝ }
+{
+    let s = survey(rotary, joints);
+    let checked = cable_check(k, joints.len(), s);
+    if let Checked::Refused(r) = checked {
+        return Cable::Refused(r);
+    }
+    if rotary < k.count as usize {
+        return Cable::Turns(s.turns);
+    }
+    Cable::Turns(0)
+}
