@@ -27,15 +27,16 @@ use Rattle.path.proofs.Room.{room-passed}
 use Rattle.divide.specs.declared.Division.{Division}
 use Rattle.divide.specs.declared.Division.the-variants as Division
 use Rattle.divide.specs.declared.Division.the-variants.{Refused}
-use Rattle.divide.specs.declared.Tolerances.{Tolerances}
+use Rattle.middle.specs.declared.Tolerances.{Tolerances}
 use Rattle.divide.specs.Checking.{divisionCheck}
-use Rattle.divide.specs.Dividing.{posesOver, jointsOver}
-use Rattle.divide.specs.Subdividing.{DivisionAnswer, divisionIn, posesLeft, jointsLeft, spaceIn, given, clearing, subdividePath, threeWhole, bothCheck, solvedPath, foundIn, solveAndDivide}
+use Rattle.machine.specs.Dividing.{posesOver, jointsOver}
+use Rattle.divide.specs.Subdividing.{DivisionAnswer, divisionIn, posesLeft, jointsLeft, given, clearing, subdividePath, threeWhole, bothCheck, solvedPath, foundIn, solveAndDivide}
+use Rattle.machine.specs.Items.{spaceIn}
 use Rattle.divide.specs.Subdividing as Ways
 use Rattle.divide.specs.Price.{AllZero, Checks, Price, IfSolved, SolvedAndDivided}
-use Rattle.divide.proofs.Stored.{joints-codec}
-use Rattle.divide.proofs.Copies.{joints-by-length}
-use Rattle.divide.proofs.Space.{space-joints}
+use Rattle.machine.proofs.Stored.{joints-codec}
+use Rattle.machine.proofs.Copies.{joints-by-length}
+use Rattle.machine.proofs.Space.{space-joints}
 use Rattle.divide.proofs.PriceLent.{zero-all}
 
 -- ---- the checks before solving

@@ -9,7 +9,7 @@ use Rattle.geometry.specs.Vector.{lerpVec}
 use Rattle.inverse.specs.Wraps.{principal, keepAllowed, angleCandidates}
 use Rattle.path.specs.Solving.{coneGood}
 use Rattle.path.specs.Unwinding.{byTurns, unwindAngle, split, differentBranch}
-use Rattle.divide.specs.Testing.{lerpJoints}
+use Rattle.middle.specs.Testing.{lerpJoints}
 use Rattle.divide.specs.Examples.{table, allHold}
 
 pub examples-hold : allHold table ≡ true

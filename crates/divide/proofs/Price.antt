@@ -13,9 +13,9 @@ use Rattle.chain.proofs.ReadyLaws.{both}
 use Rattle.halving.specs.Halving.{Answer, Done, TooMany, NoSpace, halve, Steps, here, more, Needs}
 use Rattle.halving.proofs.Steps.{step-division, steps-all}
 use Rattle.halving.proofs.Ends as Ends
-use Rattle.divide.specs.declared.Item.{Item}
-use Rattle.divide.specs.declared.Tolerances.{Tolerances}
-use Rattle.divide.specs.Testing.{jointsUnchanged, lerpJoints, midpoint, segmentWithin, nearAnEnd, divides}
+use Rattle.middle.specs.declared.Item.{Item}
+use Rattle.middle.specs.declared.Tolerances.{Tolerances}
+use Rattle.middle.specs.Testing.{jointsUnchanged, lerpJoints, midpoint, segmentWithin, nearAnEnd, divides}
 use Rattle.divide.specs.Price.{AllClose, Insertions, no-more, one-more, Result}
 use Rattle.divide.proofs.PriceGap.{unchanged-close}
 use Rattle.divide.proofs.PriceSound.{Limited, limited-mid, Sound, sound-mid}

@@ -17,7 +17,7 @@ use Rattle.geometry.specs.Vector as Vector
 use Rattle.geometry.specs.Vector.{minus}
 use Rattle.chain.specs.declared.Joints.{Joints}
 use Rattle.chain.proofs.ReadyLaws.{both}
-use Rattle.divide.specs.Testing.{asNear, jointsUnchanged}
+use Rattle.middle.specs.Testing.{asNear, jointsUnchanged}
 use Rattle.divide.specs.Price.{AllClose}
 
 -- ---- what is no number, or past all numbers

@@ -20,16 +20,16 @@ use Rattle.chain.specs.declared.ToolPose.{ToolPose}
 use Rattle.chain.specs.Prepared.{prepared}
 use Rattle.path.specs.Solving.{poseFrom, jointNumbers}
 use Rattle.refusal.specs.declared.Refusal.{Refusal}
-use Rattle.divide.specs.declared.Divided.{Divided}
-use Rattle.divide.specs.declared.Divided.the-variants.{Done, TooMany, NoSpace}
+use Rattle.machine.specs.declared.Divided.{Divided}
+use Rattle.machine.specs.declared.Divided.the-variants.{Done, TooMany, NoSpace}
 use Rattle.divide.specs.declared.Division.{Division}
 use Rattle.divide.specs.declared.Division.the-variants.{Refused, AtPose, Ended}
-use Rattle.divide.specs.declared.Item.{Item}
-use Rattle.divide.specs.declared.Tolerances.{Tolerances}
-use Rattle.divide.specs.Items.{jointsFrom, poseNumbers, item, itemsIn}
-use Rattle.divide.specs.Dividing.{dividedIn, posesOver, jointsOver}
+use Rattle.middle.specs.declared.Item.{Item}
+use Rattle.middle.specs.declared.Tolerances.{Tolerances}
+use Rattle.machine.specs.Items.{jointsFrom, poseNumbers, item, itemsIn}
+use Rattle.machine.specs.Dividing.{dividedIn, posesOver, jointsOver}
 use Rattle.divide.specs.Price.{Result, AllZero, ZeroBehind, Checks, Price}
-use Rattle.divide.proofs.Stored.{pose-codec, joints-codec}
+use Rattle.machine.proofs.Stored.{pose-codec, joints-codec}
 use Rattle.divide.proofs.Price.{Answered}
 
 -- ---- the cases of an answer

@@ -19,9 +19,9 @@ use Rattle.path.specs.Solving.{Along, posesIn, solvePath}
 use Rattle.path.proofs.Promises.{path-served}
 use Rattle.halving.specs.Halving.{halve}
 use Rattle.halving.proofs.Pairs.{steps-inserts, inserts-one}
-use Rattle.divide.specs.declared.Item.{Item}
-use Rattle.divide.specs.declared.Tolerances.{Tolerances}
-use Rattle.divide.specs.Testing.{midpoint, divides}
+use Rattle.middle.specs.declared.Item.{Item}
+use Rattle.middle.specs.declared.Tolerances.{Tolerances}
+use Rattle.middle.specs.Testing.{midpoint, divides}
 use Rattle.divide.specs.Price.{Result}
 use Rattle.divide.proofs.PriceSound.{Limited, served-limited}
 use Rattle.divide.proofs.Price.{priced}

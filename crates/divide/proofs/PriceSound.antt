@@ -22,7 +22,7 @@ use Rattle.path.specs.Unwinding.{permits, firstInside, secondInside, inside}
 use Rattle.path.specs.Posing.{boundsOf, turnedWithin}
 use Rattle.path.specs.Promise.{Served}
 use Rattle.path.specs.declared.Bounds.{Bounds}
-use Rattle.divide.specs.Testing.{half, lerpJoints}
+use Rattle.middle.specs.Testing.{half, lerpJoints}
 
 -- ---- one number
 half-fits : T (fits binary64 half)

@@ -22,18 +22,18 @@ use Rattle.path.specs.declared.Start.{Start}
 use Rattle.path.specs.Promise.{Each}
 use Rattle.path.specs.Solving.{Along, poseFrom, jointNumbers, solvePath}
 use Rattle.path.proofs.Along.{along-long}
-use Rattle.divide.specs.declared.Divided.{Divided}
+use Rattle.machine.specs.declared.Divided.{Divided}
 use Rattle.divide.specs.declared.Division.{Division}
 use Rattle.divide.specs.declared.Division.the-variants.{Refused, Ended}
-use Rattle.divide.specs.declared.Item.{Item}
-use Rattle.divide.specs.declared.Tolerances.{Tolerances}
-use Rattle.divide.specs.Items.{jointsFrom, item, itemsIn}
+use Rattle.middle.specs.declared.Item.{Item}
+use Rattle.middle.specs.declared.Tolerances.{Tolerances}
+use Rattle.machine.specs.Items.{jointsFrom, item, itemsIn, spaceIn}
 use Rattle.divide.specs.Checking.{FitUpTo, divisionCheck}
-use Rattle.divide.specs.Dividing.{division, dividedIn, posesOver, jointsOver}
-use Rattle.divide.specs.Subdividing.{divisionIn, posesLeft, jointsLeft, spaceIn, given, divisionWithin, subdividePath, foundIn}
+use Rattle.machine.specs.Dividing.{division, dividedIn, posesOver, jointsOver}
+use Rattle.divide.specs.Subdividing.{divisionIn, posesLeft, jointsLeft, given, divisionWithin, subdividePath, foundIn}
 use Rattle.divide.specs.Price.{Price, IfSolved}
-use Rattle.divide.proofs.Stored.{joints-codec}
-use Rattle.divide.proofs.Copies.{joints-front}
+use Rattle.machine.proofs.Stored.{joints-codec}
+use Rattle.machine.proofs.Copies.{joints-front}
 use Rattle.divide.proofs.Idle.{less-or-not, busy-within, full-within}
 use Rattle.divide.proofs.Price.{Answered, priced}
 use Rattle.divide.proofs.PriceSound.{Limited}

@@ -17,8 +17,8 @@ use Rattle.chain.specs.declared.Kinematics.{Kinematics}
 use Rattle.chain.specs.declared.ToolPose.{ToolPose}
 use Rattle.chain.specs.Check.{demand, firstRefusal, allWithin, longest, pivotsWithin, jointsWithin}
 use Rattle.path.specs.Solving.{posesIn, wholeRecords, pathChain}
-use Rattle.divide.specs.declared.Tolerances.{Tolerances}
-use Rattle.divide.specs.Items.{jointsFrom}
+use Rattle.middle.specs.declared.Tolerances.{Tolerances}
+use Rattle.machine.specs.Items.{jointsFrom}
 
 -- ---- a tolerance: finite and above 0
 unfoldable pub toleranceGood : Float → Bool

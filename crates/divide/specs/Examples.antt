@@ -13,7 +13,7 @@ use Rattle.chain.specs.declared.Travel.the-variants.{Unlimited}
 use Rattle.inverse.specs.Wraps.{angleCandidates}
 use Rattle.path.specs.Solving.{coneGood, jointNumbers}
 use Rattle.path.specs.Unwinding.{unwindAngle, differentBranch}
-use Rattle.divide.specs.Testing.{lerpJoints}
+use Rattle.middle.specs.Testing.{lerpJoints}
 
 abbrev the : ℕ → Float
 the n = ofInt binary64 (pos n)

@@ -23,16 +23,16 @@ use Rattle.path.specs.Unwinding.{inside}
 use Rattle.path.specs.Posing.{boundsOf}
 use Rattle.path.specs.Solving.{Along, AtPose, Kept, jointNumbers, solvePath}
 use Rattle.halving.specs.Halving.{step, Steps, Needs}
-use Rattle.divide.specs.declared.Divided.the-variants.{Done, TooMany, NoSpace}
+use Rattle.machine.specs.declared.Divided.the-variants.{Done, TooMany, NoSpace}
 use Rattle.divide.specs.declared.Division.{Division}
 use Rattle.divide.specs.declared.Division.the-variants as Division
 use Rattle.divide.specs.declared.Division.the-variants.{Refused, Ended}
-use Rattle.divide.specs.declared.Item.{Item}
-use Rattle.divide.specs.declared.Tolerances.{Tolerances}
-use Rattle.divide.specs.Items.{itemsIn}
-use Rattle.divide.specs.Testing.{least, midpoint, segmentWithin, divides}
+use Rattle.middle.specs.declared.Item.{Item}
+use Rattle.middle.specs.declared.Tolerances.{Tolerances}
+use Rattle.machine.specs.Items.{itemsIn, spaceIn}
+use Rattle.middle.specs.Testing.{least, midpoint, segmentWithin, divides}
 use Rattle.divide.specs.Checking.{divisionCheck}
-use Rattle.divide.specs.Subdividing.{spaceIn, given, solvedPath}
+use Rattle.divide.specs.Subdividing.{given, solvedPath}
 
 -- ---- at most 1e-12 apart: one number, and all five
 abbrev pub Close : Float → Float → Type 0

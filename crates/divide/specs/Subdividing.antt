@@ -22,11 +22,11 @@ use Rattle.path.specs.Solving as Path
 use Rattle.halving.specs.Halving.{Answer, Done, NoSpace}
 use Rattle.divide.specs.declared.Division.{Division}
 use Rattle.divide.specs.declared.Division.the-variants as Division
-use Rattle.divide.specs.declared.Item.{Item}
-use Rattle.divide.specs.declared.Tolerances.{Tolerances}
-use Rattle.divide.specs.Items.{itemsIn}
+use Rattle.middle.specs.declared.Item.{Item}
+use Rattle.middle.specs.declared.Tolerances.{Tolerances}
+use Rattle.machine.specs.Items.{itemsIn, spaceIn}
 use Rattle.divide.specs.Checking.{divisionCheck}
-use Rattle.divide.specs.Dividing.{division, dividedIn, posesOver, jointsOver}
+use Rattle.machine.specs.Dividing.{division, dividedIn, posesOver, jointsOver}
 
 -- ---- what a call that divides comes to: a refusal that keeps what is lent, one at a pose or after it that leaves +0.0 in both outputs, or what the halving comes to
 pub data DivisionAnswer : Type 0 where
@@ -55,10 +55,6 @@ jointsLeft (Cleared r) out = replicate (length out) nought
 jointsLeft (Halved answer) out = jointsOver answer out
 
 -- ---- division
--- space is that of the smaller output, in poses
-unfoldable pub spaceIn : (roomPoses roomJoints : ℕ) → ℕ
-spaceIn roomPoses roomJoints = cond (leb (roomPoses / 6) (roomJoints / 5)) (roomPoses / 6) (roomJoints / 5)
-
 -- the given poses with their joint sets
 abbrev pub given : List Float → List Float → List Item
 given poses joints = itemsIn (length poses / 6) poses joints

@@ -5,14 +5,14 @@ ghost use lib.ListN.{length, take};
 ghost use Rattle.divide.specs.Subdividing as S;
 ghost use Rattle.divide.specs.Price.{IfSolved, SolvedAndDivided};
 use crate::Division;
-use crate::Tolerances;
 use crate::checking::division_check;
 use crate::subdividing::halve_solved;
-use crate::subdividing::space_in;
 use chain::Checked;
 use chain::Kinematics;
 use chain::demand;
 use chain::then;
+use machine::space_in;
+use middle::Tolerances;
 use path::Start;
 
 pub fn three_whole(poses: usize, room_poses: usize, room_joints: usize) -> bool

@@ -11,14 +11,14 @@ ghost use Rattle.chain.specs.declared.Checked.the-variants.{Passed};
 ghost use Rattle.lists.specs.Rows.{rows};
 ghost use Rattle.lists.specs.Search.{all};
 ghost use Rattle.path.specs.Solving.{posesIn};
-ghost use Rattle.divide.specs.Items.{jointsFrom};
+ghost use Rattle.machine.specs.Items.{jointsFrom};
 ghost use Rattle.divide.specs.Checking as S;
-use crate::Tolerances;
-use crate::items::joints_in;
 use chain::Checked;
 use chain::Kinematics;
 use chain::demand;
 use chain::then;
+use machine::joints_in;
+use middle::Tolerances;
 
 fn tolerance_good(t: f64) -> bool
     ensures { λ r. ⌜ r ≡ S.toleranceGood t ⌝ }

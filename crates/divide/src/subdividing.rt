@@ -3,26 +3,18 @@ ghost use Prim.Native.Nat.{ℕ, _*_, _/_, _≤_};
 ghost use mathlib.Core.Path.{_≡_};
 ghost use lib.ListN.{length};
 ghost use Rattle.chain.specs.Prepared.{prepared};
-ghost use Rattle.divide.specs.Dividing.{dividedIn, posesOver, jointsOver};
+ghost use Rattle.machine.specs.Dividing.{dividedIn, posesOver, jointsOver};
 ghost use Rattle.divide.specs.Subdividing as S;
 ghost use Rattle.divide.specs.Price.{IfSolved};
-use crate::Divided;
 use crate::Division;
-use crate::Tolerances;
 use crate::checking::division_check;
-use crate::dividing::divide_given;
-use crate::dividing::divide_solved;
 use chain::Checked;
 use chain::Kinematics;
-
-pub fn space_in(room_poses: usize, room_joints: usize) -> usize
-    ensures { λ r. ⌜ r ≡ S.spaceIn «room_poses» «room_joints» ⌝ }
-{
-    if room_poses / 6 <= room_joints / 5 {
-        return room_poses / 6;
-    }
-    room_joints / 5
-}
+use machine::Divided;
+use machine::divide_given;
+use machine::divide_solved;
+use machine::space_in;
+use middle::Tolerances;
 
 // Nothing is to be halved: there is no pose, or no space for those that are given.
 fn idle(space: usize, count: usize) -> bool

@@ -4,14 +4,14 @@
 // What it must write, `stdout`, was computed by the Rust. To make it again, in oracle/:
 //     cargo run --release --bin filled > ../crates/filled/stdout
 ghost use mathlib.Core.Path.{_≡_};
-ghost use Rattle.divide.specs.Filling.{filling, after};
+ghost use Rattle.machine.specs.Filling.{filling, after};
 use chain::Joints;
 use chain::Mount;
 use chain::Prepared;
 use chain::Spin;
-use divide::Item;
-use divide::Subdiv;
 use geometry::Vec3;
+use machine::Subdiv;
+use middle::Item;
 
 fn main() {
     let p = machine();
@@ -73,7 +73,7 @@ fn item(p: Prepared, angle: f64) -> Item {
         a0: angle,
         a1: 0.0,
     };
-    let pose = divide::pose_of(p, joints);
+    let pose = middle::pose_of(p, joints);
     Item { pose, joints }
 }
 
@@ -99,7 +99,7 @@ fn filled(
 ) -> Subdiv
     ensures { λ r. ⌜ r ≡ after job (filling job p left right (now (poses .entry)) (now (joints .entry))) ⌝ }
 {
-    divide::fill(&mut job, p, left, right, poses, joints);
+    machine::fill(&mut job, p, left, right, poses, joints);
     job
 }
 

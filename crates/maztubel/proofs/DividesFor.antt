@@ -13,7 +13,7 @@ use Rattle.chain.specs.declared.Kinematics.{Kinematics}
 use Rattle.chain.specs.ChainBytes.{readChain}
 use Rattle.divide.specs.declared.Division.{Division}
 use Rattle.divide.specs.declared.Division.the-variants.{Refused}
-use Rattle.divide.specs.declared.Tolerances.{Tolerances}
+use Rattle.middle.specs.declared.Tolerances.{Tolerances}
 use Rattle.divide.specs.Checking.{fourWhole}
 use Rattle.divide.specs.Subdividing.{DivisionAnswer, divisionIn, posesLeft, jointsLeft, subdividePath, solveAndDivide}
 use Rattle.divide.specs.Price.{IfSolved, SolvedAndDivided}

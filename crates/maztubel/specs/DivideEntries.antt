@@ -9,11 +9,11 @@ use Rattle.chain.specs.declared.ChainRead.{ChainRead}
 use Rattle.chain.specs.declared.ChainRead.the-variants as ChainRead
 use Rattle.chain.specs.ChainBytes.{readChain}
 use Rattle.path.specs.declared.Start.{Start}
-use Rattle.divide.specs.declared.Divided.{Divided}
-use Rattle.divide.specs.declared.Divided.the-variants.{Done, TooMany, NoSpace}
+use Rattle.machine.specs.declared.Divided.{Divided}
+use Rattle.machine.specs.declared.Divided.the-variants.{Done, TooMany, NoSpace}
 use Rattle.divide.specs.declared.Division.{Division}
 use Rattle.divide.specs.declared.Division.the-variants.{Refused, AtPose, Ended}
-use Rattle.divide.specs.declared.Tolerances.{Tolerances}
+use Rattle.middle.specs.declared.Tolerances.{Tolerances}
 use Rattle.divide.specs.Checking.{fourWhole}
 use Rattle.divide.specs.Subdividing.{DivisionAnswer, Kept, divisionIn, subdividePath, threeWhole, solveAndDivide}
 use Rattle.divide.specs.Price.{IfSolved, SolvedAndDivided}

@@ -9,9 +9,9 @@ ghost use Rattle.maztubel.specs.DivideEntries as S;
 use crate::path_entries::start_good;
 use crate::path_entries::start_in;
 use chain::ChainRead;
-use divide::Divided;
 use divide::Division;
-use divide::Tolerances;
+use machine::Divided;
+use middle::Tolerances;
 use refusal::Refusal;
 
 #[no_mangle]

@@ -49,21 +49,21 @@ use Rattle.halving.specs.Halving.{Answer}
 use Rattle.chain.specs.declared.Prepared.{Prepared}
 use Rattle.chain.proofs.Prepared as P
 use Rattle.chain.proofs.Prepared.Laws as P′
-use Rattle.divide.specs.Dividing.{dividedIn, posesOver, jointsOver}
-use Rattle.divide.specs.Filling.{filling, after}
-use Rattle.divide.specs.declared.Divided.{Divided}
-use Rattle.divide.specs.declared.Item.{Item}
-use Rattle.divide.specs.declared.Subdiv.{Subdiv}
-use Rattle.divide.proofs.Subdiv as T
-use Rattle.divide.proofs.Subdiv.Laws as T′
-use Rattle.divide.proofs.Item as I
-use Rattle.divide.proofs.Item.Laws as I′
-use Rattle.divide.proofs.Divided as D
-use Rattle.divide.proofs.Divided.Laws as D′
-use Rattle.divide.proofs.fill as core
-use Rattle.divide.proofs.fill.Symbol as core-def
-use Rattle.divide.proofs.fill.Symbol.{name as #divide·fill}
-use Rattle.divide.proofs.fill.Met as core-thm
+use Rattle.machine.specs.Dividing.{dividedIn, posesOver, jointsOver}
+use Rattle.machine.specs.Filling.{filling, after}
+use Rattle.machine.specs.declared.Divided.{Divided}
+use Rattle.middle.specs.declared.Item.{Item}
+use Rattle.machine.specs.declared.Subdiv.{Subdiv}
+use Rattle.machine.proofs.Subdiv as T
+use Rattle.machine.proofs.Subdiv.Laws as T′
+use Rattle.middle.proofs.Item as I
+use Rattle.middle.proofs.Item.Laws as I′
+use Rattle.machine.proofs.Divided as D
+use Rattle.machine.proofs.Divided.Laws as D′
+use Rattle.machine.proofs.fill as core
+use Rattle.machine.proofs.fill.Symbol as core-def
+use Rattle.machine.proofs.fill.Symbol.{name as #machine·fill}
+use Rattle.machine.proofs.fill.Met as core-thm
 use Rattle.filled.proofs.filled.Key.{name as #filled·filled}
 use Rattle.filled.proofs.filled as f
 use Rattle.filled.proofs.filled.Statement as stated
@@ -185,7 +185,7 @@ module _ {M : Type 1} (𝓤 : URA M) (H : Heap 𝓤) (A : Atoms 𝓤) (W : Given
       nothing ! $ move ! (7 ∷ 0 ∷ []) $ fjoin ! $ move ! (6 ∷ 0 ∷ []) $ fjoin ! $ move ! (5 ∷ 0 ∷ []) $ fjoin ! $ move ! (4 ∷ 0 ∷ []) $ fjoin ! $ move ! (3 ∷ 0 ∷ []) $ fjoin ! $ move ! (2 ∷ 0 ∷ []) $ fjoin ! $
       move ! (1 ∷ 0 ∷ []) $ join ! $ frame ! $ done !
 
-  module _ (C : Calls 𝓤 H) (Λ : Loops 𝓤 H) (fm : FmC 𝓤 H (W .laws) C) (known : Triple 𝓤 (C #divide·fill) (Core 𝓤 H A at-mem run)) where
+  module _ (C : Calls 𝓤 H) (Λ : Loops 𝓤 H) (fm : FmC 𝓤 H (W .laws) C) (known : Triple 𝓤 (C #machine·fill) (Core 𝓤 H A at-mem run)) where
     walk : Holds (hasTy T′.mir vh) × WT vh → Holds (hasTy P′.mir vp) × WT vp → Holds (hasTy I′.mir vl) × WT vl → Holds (hasTy I′.mir vr) × WT vr → Room f64 (length (w₁ .now)) → Room f64 (length (w₂ .now))
         → ent 𝓤 (onEntry 𝓤 H A f.signature (κ₁, (κ₂, tt)) (q₁, (q₂, tt)) x at) (WpFn 𝓤 H C Λ code.function (vh ∷ vp ∷ vl ∷ vr ∷ s₁ ∷ s₂ ∷ []) Post)
     walk th tp tl tr r₁ r₂ =
@@ -227,7 +227,7 @@ module _ {M : Type 1} (𝓤 : URA M) (H : Heap 𝓤) (A : Atoms 𝓤) (W : Given
         keep ! (1 ∷ 0 ∷ 4 ∷ 2 ∷ []) $ by ! (exits (zs .0) (poses-in zs) (joints-in zs) e l₁ l₂)))))))))))))))))))))))))
 
 module _ {M : Type 1} (𝓤 : URA M) (H : Heap 𝓤) (A : Atoms 𝓤) (W : Given 𝓤 H A) (at-mem : Memory → SProp 𝓤) (run : Routine → Fun 𝓤) where
-  filled-walks : (C : Calls 𝓤 H) (Λ : Loops 𝓤 H) → FmC 𝓤 H (W .laws) C → Triple 𝓤 (C #divide·fill) (Core 𝓤 H A at-mem run) → Walks 𝓤 H A f.ended stayed (WpFn 𝓤 H C Λ code.function) (f.clauses 𝓤 H A at-mem run)
+  filled-walks : (C : Calls 𝓤 H) (Λ : Loops 𝓤 H) → FmC 𝓤 H (W .laws) C → Triple 𝓤 (C #machine·fill) (Core 𝓤 H A at-mem run) → Walks 𝓤 H A f.ended stayed (WpFn 𝓤 H C Λ code.function) (f.clauses 𝓤 H A at-mem run)
   filled-walks C Λ fm known = walked 𝓤 H A f.ended stayed (f.clauses 𝓤 H A at-mem run) (WpFn 𝓤 H C Λ code.function)
       (λ κs. (LL.vals T.the-type T′.the-laws, (LL.vals P.the-type P′.the-laws, (LL.vals I.the-type I′.the-laws, (LL.vals I.the-type I′.the-laws, (slice-vals, (slice-vals, tt)))))))
       (λ κs. (
@@ -263,7 +263,7 @@ module _ {M : Type 1} (𝓤 : URA M) (H : Heap 𝓤) (A : Atoms 𝓤) (W : Given
     ),
   )
 
-filled-meets : {M : Type 1} (𝓤 : URA M) (H : Heap 𝓤) (A : Atoms 𝓤) → Given 𝓤 H A → (at-mem : Memory → SProp 𝓤) (run : Routine → Fun 𝓤) (𝓣 : Tables 𝓤 H) → Triple 𝓤 (𝓣 .C #divide·fill) (Core 𝓤 H A at-mem run)
+filled-meets : {M : Type 1} (𝓤 : URA M) (H : Heap 𝓤) (A : Atoms 𝓤) → Given 𝓤 H A → (at-mem : Memory → SProp 𝓤) (run : Routine → Fun 𝓤) (𝓣 : Tables 𝓤 H) → Triple 𝓤 (𝓣 .C #machine·fill) (Core 𝓤 H A at-mem run)
     → Meets 𝓤 H A f.signature (WpFn 𝓤 H (𝓣 .C) (𝓣 .Λ) code.function) (f.spec 𝓤 H A at-mem run)
 filled-meets 𝓤 H A W at-mem run 𝓣 known = walk-meets 𝓤 H A f.ended stayed W (goes 𝓤 H A W at-mem run) (f.clauses 𝓤 H A at-mem run) (WpFn 𝓤 H (𝓣 .C) (𝓣 .Λ) code.function) (WpFn-mono 𝓤 H (W .laws) 𝓣 code.function)
     (filled-walks 𝓤 H A W at-mem run (𝓣 .C) (𝓣 .Λ) (fmOf 𝓤 H (W .laws) 𝓣) known)
@@ -274,4 +274,4 @@ filled-spec 𝓤 H 𝓜 𝓖 𝓡 =
     entered 𝓤 H (tripleOf 𝓤 H (𝓖 .A) f.signature (f.spec 𝓤 H (𝓖 .A) (𝓜 .mem) (𝓡 .run)))
     (tables 𝓤 H 𝓜 𝓡 code.env .C) (tables 𝓤 H 𝓜 𝓡 code.env .Λ) #filled·filled code.function (code.unfolded 𝓤 H 𝓜 𝓡)
     (filled-meets 𝓤 H (𝓖 .A) (givenOf 𝓤 H 𝓜 𝓖) (𝓜 .mem) (𝓡 .run) (tablesOf 𝓤 H 𝓜 (tables 𝓤 H 𝓜 𝓡 code.env))
-    (cited 𝓤 H (Core 𝓤 H (𝓖 .A) (𝓜 .mem) (𝓡 .run)) 𝓜 𝓡 code.env #divide·fill core-def.routine code.calls-divide·fill (core-thm.met 𝓤 H 𝓜 𝓖 𝓡)))
+    (cited 𝓤 H (Core 𝓤 H (𝓖 .A) (𝓜 .mem) (𝓡 .run)) 𝓜 𝓡 code.env #machine·fill core-def.routine code.calls-machine·fill (core-thm.met 𝓤 H 𝓜 𝓖 𝓡)))

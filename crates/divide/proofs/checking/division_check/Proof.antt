@@ -2,7 +2,7 @@ use borrow.Author.Needs.{needs}
 use mathlib.Core.Path.{_∙_, sym}
 use lib.Seq.{length-take-le}
 use Rattle.divide.specs.Checking.{divisionCheck}
-use Rattle.divide.proofs.Space.{check-finite}
+use Rattle.divide.proofs.Lengths.{check-finite}
 use Rattle.divide.proofs.checking.division_check.Statement.{statement}
 use Rattle.divide.proofs.checking.division_check.Tie as tie
 
