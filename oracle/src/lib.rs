@@ -25,6 +25,7 @@ pub mod joints;
 pub mod lean;
 pub mod machines;
 pub mod maztubel;
+pub mod met;
 pub mod models;
 pub mod numbers;
 #[cfg(original)]
