@@ -68,7 +68,7 @@ const EXACTLY: [&str; 5] = [
 ];
 
 /// The machines, each with the limits of its rotaries.
-const MACHINES: [&str; 6] = ["T", "H", "TT", "HH", "TH", "HT"];
+pub(crate) const MACHINES: [&str; 6] = ["T", "H", "TT", "HH", "TH", "HT"];
 const LIMITED: [&str; 4] = [
     "no limits",
     "first limited",
@@ -247,7 +247,7 @@ fn answered(answer: &Answer) -> String {
     }
 }
 
-fn kind(chain: &Chain) -> String {
+pub(crate) fn kind(chain: &Chain) -> String {
     let carrier = |carrier| if carrier == 0 { 'T' } else { 'H' };
     chain
         .present()
