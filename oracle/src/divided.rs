@@ -306,3 +306,136 @@ pub fn telling(answer: Answer, rooms: Rooms) -> Told {
         inserted: [LENT_COUNT, inserted as u64, LENT_COUNT],
     }
 }
+
+#[cfg(test)]
+mod tests {
+    use super::*;
+    use crate::random::Random;
+
+    /// A path of two poses that is served with its joints, or solved from a start.
+    fn sound(solved: bool) -> Division {
+        let mut path = Path::long(2, &mut Random::new(1));
+        path.start = vec![0.0; JOINTS];
+        let joints = solved::expected(&path).expect("a path that is served");
+        let from = match solved {
+            true => From::Start {
+                start: path.start,
+                cone: 1.0,
+            },
+            false => From::Joints(joints),
+        };
+        Division {
+            chain: path.chain,
+            poses: path.poses,
+            from,
+            tolerances: [1.0, 1.0],
+        }
+    }
+
+    type Change = fn(&mut Division, &mut Rooms);
+
+    /// The number, and whether what is lent is cleared.
+    fn refused(solved: bool, changes: &[Change]) -> (u32, bool) {
+        let (mut division, mut rooms) = (sound(solved), [2 * POSE, 2 * JOINTS]);
+        for change in changes {
+            change(&mut division, &mut rooms);
+        }
+        let verdict = expected(&division);
+        let refusal = verdict.with(rooms).err();
+        refusal.map_or((0, false), |refusal| (refusal.number, refusal.clears))
+    }
+
+    /// Each change brings a refusal of its own, and with all those behind it the same.
+    fn stand_in_order(solved: bool, changes: &[(u32, bool, Change)]) {
+        assert_eq!(refused(solved, &[]), (0, false));
+        for (first, &(number, clears, change)) in changes.iter().enumerate() {
+            assert_eq!(refused(solved, &[change]), (number, clears));
+            let behind = changes[first..].iter().rev();
+            let all: Vec<_> = behind.map(|&(_, _, change)| change).collect();
+            assert_eq!(refused(solved, &all), (number, clears));
+        }
+    }
+
+    fn joints(division: &mut Division) -> &mut Vec<f64> {
+        match &mut division.from {
+            From::Joints(numbers) | From::Start { start: numbers, .. } => numbers,
+        }
+    }
+
+    const BROKEN: Change = |_, rooms| rooms[1] += 1;
+    const MALFORMED: Change = |division, _| division.chain[1] = 1;
+    const TOLERANCE: Change = |division, _| division.tolerances[1] = f64::NAN;
+    const LETTER: Change = |division, _| division.chain[8] = b'D';
+    const SPACE: Change = |_, rooms| rooms[0] = POSE;
+
+    #[test]
+    fn checks_of_division_stand_in_order() {
+        stand_in_order(
+            false,
+            &[
+                (20, false, BROKEN),
+                (29, false, MALFORMED),
+                (19, false, TOLERANCE),
+                (20, false, |division, _| {
+                    joints(division).extend([0.0; JOINTS]);
+                }),
+                (4, false, LETTER),
+                (16, false, |division, _| {
+                    division.poses[POSE + 5] = f64::NAN;
+                }),
+                (17, false, |division, _| joints(division)[0] = 2e7),
+                (28, true, SPACE),
+            ],
+        );
+    }
+
+    #[test]
+    fn checks_of_both_stand_in_order() {
+        stand_in_order(
+            true,
+            &[
+                (20, false, BROKEN),
+                (29, false, MALFORMED),
+                (18, false, |division, _| {
+                    if let From::Start { cone, .. } = &mut division.from {
+                        *cone = 0.0;
+                    }
+                }),
+                (4, false, LETTER),
+                (16, false, |division, _| joints(division)[4] = f64::NAN),
+                (17, false, |division, _| joints(division)[0] = 2e7),
+                (28, false, SPACE),
+                (25, true, |division, _| division.poses[3..6].fill(0.0)),
+                (16, true, |division, _| division.poses[0] = f64::NAN),
+                (19, true, TOLERANCE),
+            ],
+        );
+    }
+
+    /// Of a division that inserts three, and of one that would insert too many.
+    #[test]
+    fn a_space_is_counted() {
+        let divided = Divided {
+            poses: vec![0.0; 5 * POSE],
+            joints: vec![0.0; 5 * JOINTS],
+            inserted: 3,
+        };
+        let judged = |then| Verdict::Judged {
+            given: 2,
+            short: Refusal::clearing(28, 0),
+            then,
+        };
+        let told = |verdict: &Verdict, space: usize| {
+            let answer = verdict.with([POSE * space, JOINTS * (space + 1)]);
+            answer.map_or_else(|refusal| (refusal.number, refusal.inserted), |_| (0, 3))
+        };
+        let three = judged(Ok(divided));
+        let expected = [(28, 0), (28, 0), (28, 0), (28, 1), (28, 2), (0, 3), (0, 3)];
+        for (space, expected) in expected.into_iter().enumerate() {
+            assert_eq!(told(&three, space), expected);
+        }
+        let many = judged(Err(Refusal::clearing(27, MOST_INSERTED)));
+        assert_eq!(told(&many, 10_001), (28, 9_999));
+        assert_eq!(told(&many, 10_002), (27, MOST_INSERTED));
+    }
+}

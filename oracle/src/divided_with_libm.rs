@@ -1,7 +1,7 @@
 //! How far a divided path lies from the one that the Rust gives with libm, and how often that has another number or another count.
 //!
 //! A tolerance that is met exactly is drawn on purpose, and a pose at a border is solved another way by another last bit. So paths
-//! with another count, and those with a position or an angle 0.001 mm or degrees away or more, are counted and not measured.
+//! with another count, and those that are divided at other places, are counted and not measured.
 
 use crate::chains::Chain;
 use crate::divided::{Divided, Refusal};
@@ -11,7 +11,8 @@ use crate::original::untouched::kinematics::FiveAxisSetup;
 use crate::paths::{JOINTS, POSE};
 use crate::rust::untouched;
 
-/// A joint set that is farther away than this, in mm or degrees, is that of another place on the path.
+/// Solved joints that are farther away than this, in mm or degrees, are those of another place on the path. Where the joints are
+/// given those of one place are the same to the last bit.
 const ELSEWHERE: f64 = 1e-3;
 
 /// Angles up to this many degrees are those of a usual path.
@@ -55,7 +56,11 @@ impl WithLibm {
             return;
         }
         let one = Measured::of(divided, &libms);
-        if one.angle.max(one.position) >= ELSEWHERE {
+        let most = match division.from {
+            From::Joints(_) => 0.0,
+            From::Start { .. } => ELSEWHERE,
+        };
+        if one.angle.max(one.position) > most {
             self.elsewhere += 1;
             return;
         }

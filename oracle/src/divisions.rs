@@ -2,7 +2,7 @@
 //! that the joints do not reach; sound, or damaged in a field or in several at once; and spaces from none to more than enough.
 
 use crate::angles::{signed, within};
-use crate::chains::{Chain, chain_bytes, slot};
+use crate::chains::{Chain, chain_bytes, harmed_bytes, slot};
 use crate::divided::{MOST_INSERTED, Verdict};
 use crate::floats;
 use crate::halvings::Halvings;
@@ -12,9 +12,13 @@ use crate::machines::machine;
 use crate::numbers::{not_finite, refused};
 use crate::paths::{JOINTS, MOST_TIP, POSE, Path, bad_cone};
 use crate::random::Random;
+use crate::reading;
 use crate::rust::ported;
 use crate::walks::{poses_of, walk};
 use std::fmt;
+
+/// A tolerance that is smaller is one of roundings, and the halving for it seldom ends.
+const ROUNDINGS: f64 = 1e-9;
 
 /// How many numbers a call is lent to write poses to, and joints.
 pub type Rooms = [usize; 2];
@@ -65,13 +69,21 @@ impl Division {
         [both, alone]
     }
 
+    /// Mostly of the same machine, since on another one the joints are those of another path.
+    fn damage_chain(&mut self, random: &mut Random) {
+        self.chain = match reading::chain(&self.chain) {
+            Ok(chain) if random.below(32) > 0 => harmed_bytes(chain, random),
+            _ => chain_bytes(random),
+        };
+    }
+
     pub fn given(&self) -> usize {
         self.poses.len() / POSE
     }
 
     fn damage(&mut self, random: &mut Random) {
         match random.below(20) {
-            0..=5 => self.chain = chain_bytes(random),
+            0..=5 => self.damage_chain(random),
             6..=8 => self.tolerances[random.below(2) as usize] = bad_tolerance(random),
             9 => {
                 let length = random.below(self.poses.len() as u64 + 3) as usize;
@@ -121,7 +133,7 @@ const JOINT_LIMITS: [f64; JOINTS] = [
     MOST_ANGLE,
 ];
 
-/// Some number of some record becomes one that is refused, or at an end of what is served.
+/// Some number of some record becomes one that is refused.
 fn damage_record(numbers: &mut [f64], limits: &[f64], random: &mut Random) {
     let count = numbers.len() / limits.len();
     if count == 0 {
@@ -131,10 +143,7 @@ fn damage_record(numbers: &mut [f64], limits: &[f64], random: &mut Random) {
     let number = &mut numbers[limits.len() * random.below(count as u64) as usize + slot];
     *number = match (random.below(4), limits[slot]) {
         (0 | 1, _) | (_, f64::INFINITY) => not_finite(random),
-        (2, most) => signed(
-            random.one_of(&[most.next_up(), most.next_up(), most]),
-            random,
-        ),
+        (2, most) => signed(most.next_up(), random),
         (_, most) => refused(most, random),
     };
 }
@@ -152,7 +161,10 @@ impl Drawn {
     fn course(chain: Chain, random: &mut Random) -> Self {
         let count = length(random) + random.below(6) as usize;
         let path = Path::of_course(chain, count, random);
-        let chain = crate::reading::chain(&path.chain).expect("bytes that were made of a chain");
+        if path.poses.is_empty() && random.below(8) > 0 {
+            return Drawn::walk(chain, random);
+        }
+        let chain = reading::chain(&path.chain).expect("bytes that were made of a chain");
         let joints = match random.below(3) {
             0 => walk(path.poses.len() / POSE, random),
             _ => Vec::new(),
@@ -240,12 +252,19 @@ impl Drawn {
                 10f64.powf(-3.0 + within(2.0, random)),
                 10f64.powf(-1.0 + within(1.5, random)),
             ],
-            1 => [1e-13, 1.0],
             2 => random.one_of(&[[f64::MAX, 0.5], [0.1, f64::MAX], [f64::from_bits(1); 2]]),
             3 | 4 => self.gaps(joints, random),
             _ => largest.map(|gap| gap * part(random)),
         };
-        tolerances = tolerances.map(|x| if x > 0.0 { x } else { 0.01 });
+        let least = if random.below(512) > 0 {
+            ROUNDINGS
+        } else {
+            0.0
+        };
+        tolerances = match random.below(8) {
+            0 => [1e-13, 1.0],
+            _ => tolerances.map(|x| if x > 0.0 { x.max(least) } else { 0.01 }),
+        };
         for _ in 0..30 {
             if halvings.inserted(tolerances, most).is_some() {
                 break;
@@ -286,9 +305,10 @@ fn length(random: &mut Random) -> usize {
 fn most_inserted(random: &mut Random) -> usize {
     match random.below(4096) {
         0 => 2 * MOST_INSERTED,
-        1..=16 => 2000,
-        17..=400 => 200,
-        _ => 48,
+        1..=8 => 2000,
+        9..=80 => 300,
+        81..=800 => 100,
+        _ => 24,
     }
 }
 

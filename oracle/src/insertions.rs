@@ -1,9 +1,7 @@
 //! What comes of dividing paths: how often each answer was met, on each type of machine and with each kind of space, the differences
 //! from what is expected, and how far the answers lie from those that the Rust gives with libm.
 
-use crate::divided::{
-    Answer, Divided, MOST_INSERTED, Refusal, Told, Verdict, ask, expected, telling,
-};
+use crate::divided::{Answer, Divided, MOST_INSERTED, Told, Verdict, ask, expected, telling};
 use crate::divided_with_libm::WithLibm;
 use crate::divisions::{Division, From, Rooms, spaces};
 use crate::met::{Differences, Met};
@@ -12,8 +10,12 @@ use crate::paths::{JOINTS, POSE};
 use crate::random::Random;
 use crate::reading;
 use crate::rust::ported;
+use crate::solved::MOST_POSES;
 use crate::ways::{MACHINES, kind};
 use std::process::ExitCode;
+
+/// One of so many divisions is looked into, by its neighbours and by what libm gives.
+const LOOKED_INTO: u64 = 4;
 
 /// Of a divided path so many pairs of neighbours are looked at.
 const LOOKED_AT: usize = 4;
@@ -77,7 +79,7 @@ const NEIGHBOURS: [&str; 4] = [
 ];
 
 /// Long paths, and those that need as many insertions as may be, or one less, or one more: each once at least.
-const LONG: [&str; 1] = ["served, 100000 poses"];
+const LONG: &str = "served, 100000 poses";
 const NEEDED: [&str; 3] = ["needs 9999", "needs 10000", "needs 10001"];
 
 #[derive(Default)]
@@ -102,11 +104,14 @@ impl Outcome for Insertions {
 }
 
 impl Insertions {
-    /// Calls the export with several spaces, and holds what it tells to what it must tell.
+    /// Calls the export with several spaces, and holds what it tells to what it must tell. One in `LOOKED_INTO` is looked into.
     pub fn compare(&mut self, division: &Division, random: &mut Random) {
         let verdict = expected(division);
         let spaces = spaces(&verdict, random);
         self.compare_with(division, &verdict, &spaces);
+        if random.below(LOOKED_INTO) == 0 {
+            self.look_into(division, &verdict);
+        }
     }
 
     /// The same with every space up to three records more than enough.
@@ -121,14 +126,18 @@ impl Insertions {
         let spaces = (0..=most)
             .flat_map(|poses| (0..=most).map(move |joints| [POSE * poses, JOINTS * joints]));
         self.compare_with(division, &verdict, &spaces.collect::<Vec<_>>());
+        self.look_into(division, &verdict);
     }
 
     fn compare_with(&mut self, division: &Division, verdict: &Verdict, spaces: &[Rooms]) {
         for &rooms in spaces {
             self.hold(division, verdict, rooms, &ask(division, rooms));
         }
-        if let Verdict::Judged { then, .. } = verdict {
-            self.look(division, then);
+        if let Verdict::Judged {
+            then: Ok(divided), ..
+        } = verdict
+        {
+            self.look(division, divided);
         }
     }
 
@@ -154,26 +163,36 @@ impl Insertions {
         }
     }
 
-    /// At a division that comes as far as its space.
-    fn look(&mut self, division: &Division, then: &Result<Divided, Refusal>) {
+    /// At a division that is served where there is space.
+    fn look(&mut self, division: &Division, divided: &Divided) {
         let chain = reading::chain(&division.chain).expect("a chain that is served");
         let entry = entry(division);
-        if let Ok(divided) = then {
-            self.poses += (divided.poses.len() / POSE) as u64;
-            self.met.count(format!("{entry}, {}", inserted(divided)));
-            let turned = divided.inserted > 0;
-            self.met
-                .count_if(&format!("{entry}, inserted on {}", kind(&chain)), turned);
-            let long = format!("served, {} poses", division.given());
-            self.met
-                .count_if(&format!("{entry}, {long}"), LONG.contains(&long.as_str()));
-            self.look_at_neighbours(division, divided);
+        self.poses += (divided.poses.len() / POSE) as u64;
+        self.met.count(format!("{entry}, {}", inserted(divided)));
+        if divided.inserted > 0 {
+            let machine = kind(&chain);
+            self.met.count(format!("{entry}, inserted on {machine}"));
         }
-        let halved = match then {
-            Err(refusal) if refusal.number != 27 => return,
-            halved => halved.as_ref(),
+        if division.given() == MOST_POSES {
+            self.met.count(format!("{entry}, {LONG}"));
+        }
+    }
+
+    /// At the neighbours, and at what libm gives.
+    fn look_into(&mut self, division: &Division, verdict: &Verdict) {
+        let Verdict::Judged { then, .. } = verdict else {
+            return;
         };
-        let alone = usize::from(entry == ALONE);
+        let chain = reading::chain(&division.chain).expect("a chain that is served");
+        let halved = match then {
+            Ok(divided) => {
+                self.look_at_neighbours(division, divided);
+                Ok(divided)
+            }
+            Err(refusal) if refusal.number == 27 => Err(refusal),
+            Err(_) => return,
+        };
+        let alone = usize::from(entry(division) == ALONE);
         self.with_libm[alone].see(division, &chain, halved);
     }
 
@@ -260,7 +279,7 @@ fn all(fewest: u64) -> Vec<(String, u64)> {
         );
         let machines = MACHINES.map(|machine| format!("{entry}, inserted on {machine}"));
         all.extend(machines.map(|what| (what, fewest)));
-        let once = LONG.iter().chain(&NEEDED);
+        let once = [LONG].into_iter().chain(NEEDED);
         all.extend(once.map(|what| (format!("{entry}, {what}"), 1)));
     }
     all.extend(NEIGHBOURS.map(|what| (what.to_owned(), fewest)));
@@ -374,4 +393,102 @@ fn without(division: &Division, rooms: Rooms, first: usize, end: usize) -> (Divi
         joints.saturating_sub(JOINTS * fewer),
     ];
     (less, rooms)
+}
+
+#[cfg(test)]
+mod tests {
+    use super::*;
+    use crate::calls::{GUARD, LENT};
+
+    type Fault = fn(Rooms, &mut Told);
+
+    /// Compares what an export with a fault would tell, and gives how often that was noticed.
+    fn noticed(fault: Fault) -> u64 {
+        let mut random = Random::new(7);
+        let mut insertions = Insertions::default();
+        for _ in 0..1500 {
+            for division in Division::drawn(&mut random) {
+                let verdict = expected(&division);
+                for rooms in spaces(&verdict, &mut random) {
+                    let mut told = telling(verdict.with(rooms), rooms);
+                    fault(rooms, &mut told);
+                    insertions.hold(&division, &verdict, rooms, &told);
+                }
+            }
+        }
+        insertions.differences()
+    }
+
+    /// The lent joints without their guards.
+    fn joints(rooms: Rooms, told: &mut Told) -> &mut [u64] {
+        let start = GUARD + rooms[0] + GUARD + GUARD;
+        &mut told.told.numbers[start..start + rooms[1]]
+    }
+
+    const FAULTS: [(&str, Fault); 12] = [
+        ("a count of 0", |_, told| told.inserted[1] = 0),
+        ("a count of the space", |rooms, told| {
+            if told.told.number == 0 {
+                told.inserted[1] = (rooms[0] / POSE) as u64;
+            }
+        }),
+        ("a count with 19", |_, told| {
+            if told.told.number == 19 {
+                told.inserted[1] = 1;
+            }
+        }),
+        ("27 for 28", |_, told| {
+            if told.told.number == 28 {
+                told.told.number = 27;
+            }
+        }),
+        ("28 where the space is just enough", |rooms, told| {
+            let poses = rooms[0] / POSE;
+            if told.told.number == 0 && told.inserted[1] > 0 && poses as u64 == told.inserted[1] + 2
+            {
+                told.told.number = 28;
+            }
+        }),
+        ("the place of 28", |_, told| {
+            if told.told.number == 28 {
+                told.told.at[1] = 1;
+            }
+        }),
+        ("joints kept at 28", |rooms, told| {
+            if told.told.number == 28 {
+                joints(rooms, told).fill(LENT);
+            }
+        }),
+        ("joints cleared with 17", |rooms, told| {
+            if told.told.number == 17 {
+                joints(rooms, told).fill(0);
+            }
+        }),
+        ("joints cleared with 20", |rooms, told| {
+            if told.told.number == 20 {
+                joints(rooms, told).fill(0);
+            }
+        }),
+        ("the rest of the longer output left", |rooms, told| {
+            if told.told.number == 0 && rooms[1] / JOINTS > rooms[0] / POSE {
+                *joints(rooms, told).last_mut().expect("a record") = LENT;
+            }
+        }),
+        ("a last place of the first tip", |rooms, told| {
+            if told.told.number == 0 && rooms[0] > 0 {
+                told.told.numbers[GUARD] ^= 1;
+            }
+        }),
+        ("a number behind the poses", |rooms, told| {
+            told.told.numbers[GUARD + rooms[0]] = 0;
+        }),
+    ];
+
+    #[test]
+    fn every_fault_is_noticed() {
+        assert_eq!(noticed(|_, _| ()), 0);
+        for (words, fault) in FAULTS {
+            assert!(noticed(fault) > 0, "{words}");
+        }
+    }
 }

@@ -33,7 +33,7 @@ mod comparison {
     const PATHS: u64 = 1000;
 
     /// How often each answer must be met in ten parts, on the average.
-    const FEWEST: u64 = 2;
+    const FEWEST: u64 = 1;
 
     /// How many paths of each exact number of insertions there are.
     const EXACT: u64 = 2;
