@@ -37,6 +37,12 @@ pub struct Divided {
     pub inserted: usize,
 }
 
+impl Divided {
+    pub fn numbers(&self) -> impl Iterator<Item = f64> {
+        self.poses.iter().chain(&self.joints).copied()
+    }
+}
+
 pub type Answer<'a> = Result<&'a Divided, Refusal>;
 
 /// What a call comes to with any space.

@@ -5,6 +5,7 @@ use crate::divided::{Answer, Divided, MOST_INSERTED, Told, Verdict, ask, expecte
 use crate::divided_with_libm::WithLibm;
 use crate::divisions::{Division, From, Rooms, spaces};
 use crate::met::{Differences, Met};
+use crate::original::ported::kinematics::{Joints, Kinematics, ToolPose};
 use crate::parts::Outcome;
 use crate::paths::{JOINTS, POSE};
 use crate::random::Random;
@@ -79,7 +80,7 @@ const NEIGHBOURS: [&str; 4] = [
 ];
 
 /// Long paths, and those that need as many insertions as may be, or one less, or one more: each once at least.
-const LONG: &str = "served, 100000 poses";
+const LONG: &str = "served, 100000 poses, thousands inserted";
 const NEEDED: [&str; 3] = ["needs 9999", "needs 10000", "needs 10001"];
 
 #[derive(Default)]
@@ -147,11 +148,8 @@ impl Insertions {
         let entry = entry(division);
         self.calls += 1;
         self.met.count(format!("{entry}, {}", answered(answer)));
-        let served = answer.is_ok_and(|divided| {
-            let numbers = divided.poses.iter().chain(&divided.joints);
-            numbers.into_iter().all(|x| x.is_finite())
-        });
-        if *told != must || (answer.is_ok() && !served) {
+        let mut answers = answer.iter().flat_map(|divided| divided.numbers());
+        if *told != must || !answers.all(|x| x.is_finite()) {
             self.differences.note(|| example(division, rooms, told));
         } else if let Ok(divided) = answer {
             let space = rooms[0] / POSE == divided.poses.len() / POSE;
@@ -173,7 +171,7 @@ impl Insertions {
             let machine = kind(&chain);
             self.met.count(format!("{entry}, inserted on {machine}"));
         }
-        if division.given() == MOST_POSES {
+        if division.given() == MOST_POSES && divided.inserted > 1000 {
             self.met.count(format!("{entry}, {LONG}"));
         }
     }
@@ -199,36 +197,14 @@ impl Insertions {
     fn look_at_neighbours(&mut self, division: &Division, divided: &Divided) {
         let chain = reading::chain(&division.chain).expect("a chain that is served");
         let rust = ported::setup(&chain).kinematics;
-        let [chord, axis] = division.tolerances;
         let count = divided.poses.len() / POSE;
-        let poses: Vec<_> = divided.poses.chunks(POSE).map(ported::tool_pose).collect();
-        let sets: Vec<_> = divided
-            .joints
-            .chunks(JOINTS)
-            .map(ported::joint_set)
-            .collect();
+        let item = |i: usize| {
+            let pose = ported::tool_pose(&divided.poses[POSE * i..]);
+            (pose, ported::joint_set(&divided.joints[JOINTS * i..]))
+        };
         let pairs = 0..count.saturating_sub(1);
         for i in pairs.step_by(count.div_ceil(LOOKED_AT).max(1)) {
-            let [left, right] = [i, i + 1].map(|i| (poses[i], sets[i]));
-            let gaps = rust.gaps(left, right).expect("neighbours on a sound chain");
-            let turn = |slot: usize| (left.1.angles[slot] - right.1.angles[slot]).abs() >= 360.0;
-            let axes = [left, right].map(|(_, joints)| rust.forward(&joints, 0.0));
-            let opposite = match axes {
-                [Ok(one), Ok(other)] => {
-                    let sum = |x: f64, y: f64| (x + y).abs();
-                    sum(one.axis.x(), other.axis.x())
-                        .max(sum(one.axis.y(), other.axis.y()))
-                        .max(sum(one.axis.z(), other.axis.z()))
-                        < 1e-12
-                }
-                _ => false,
-            };
-            let met = [
-                gaps[0] == chord || gaps[1] == axis,
-                gaps[0] > chord || gaps[1] > axis,
-                turn(0) || turn(1),
-                opposite,
-            ];
+            let met = neighbours(&rust, item(i), item(i + 1), division.tolerances);
             for (words, met) in NEIGHBOURS.iter().zip(met) {
                 self.met.count_if(words, met);
             }
@@ -284,6 +260,28 @@ fn all(fewest: u64) -> Vec<(String, u64)> {
     }
     all.extend(NEIGHBOURS.map(|what| (what.to_owned(), fewest)));
     all
+}
+
+/// Which of `NEIGHBOURS` two are.
+fn neighbours(
+    rust: &Kinematics,
+    left: (ToolPose, Joints),
+    right: (ToolPose, Joints),
+    [chord, axis]: [f64; 2],
+) -> [bool; 4] {
+    let [tip_gap, axis_gap] = rust.gaps(left, right).expect("neighbours that are reached");
+    let turn = |slot: usize| (left.1.angles[slot] - right.1.angles[slot]).abs() >= 360.0;
+    let [one, other] = [left, right].map(|(_, joints)| {
+        let pose = rust.forward(&joints, 0.0).expect("a pose that is reached");
+        [pose.axis.x(), pose.axis.y(), pose.axis.z()]
+    });
+    let opposite = one.iter().zip(other).all(|(x, y)| (x + y).abs() < 1e-12);
+    [
+        tip_gap == chord || axis_gap == axis,
+        tip_gap > chord || axis_gap > axis,
+        turn(0) || turn(1),
+        opposite,
+    ]
 }
 
 fn entry(division: &Division) -> &'static str {
