@@ -27,8 +27,8 @@ impl RotaryLimits {
 }
 ";
 
-/// Stands behind the copies of kinematics.rs, whose own text stays: how `solve_path` comes to one pose, told by its own steps, and
-/// the clearance that it holds to the cone.
+/// Stands behind the copies of kinematics.rs, whose own text stays: how `solve_path` comes to one pose, told by its own steps, the
+/// clearance that it holds to the cone, and the gaps that `segment_within` holds to the tolerances.
 const OF_A_POSE: &str = "
 #[derive(Clone, Copy, Debug, PartialEq)]
 pub(crate) enum Way {
@@ -43,6 +43,15 @@ impl Kinematics {
     pub(crate) fn clearance(&self, axis: Vec3) -> Option<f64> {
         let frame = singular_frame(self)?;
         Some(pole_clearance_deg(unit_direction(axis)?, frame.direction))
+    }
+
+    /// Of the tip and of the axis, in the middle of two poses with their joints.
+    pub(crate) fn gaps(&self, left: (ToolPose, Joints), right: (ToolPose, Joints)) -> Option<[f64; 2]> {
+        let axis = |joints: Joints| Some(self.forward(&joints, PATH_TOOL_LENGTH).ok()?.axis);
+        let between = slerp_axis(axis(left.1)?, axis(right.1)?, 0.5);
+        let mid = self.forward(&lerp_joints(left.1, right.1, 0.5), PATH_TOOL_LENGTH).ok()?;
+        let tip_gap = gap_vec(mid.tip, lerp_vec(left.0.tip, right.0.tip, 0.5));
+        Some([tip_gap, angle_between_deg(mid.axis, between)])
     }
 
     /// Whether `sp1` and `sp2` let an axis by, which the test of the axis that is reached may refuse.

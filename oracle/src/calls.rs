@@ -15,6 +15,53 @@ pub const LENT: u64 = 0x7FF8_0123_4567_89AB;
 pub const LENT_AT: u64 = 0x0123_4567_89AB_CDEF;
 pub const LENT_LETTER: u8 = 0xA5;
 
+/// What a call is lent to read, between guards. All must stand as it did afterwards.
+pub struct Guarded<'a, T> {
+    given: &'a [T],
+    guard: T,
+    all: Vec<T>,
+}
+
+impl<'a> Guarded<'a, u8> {
+    pub fn bytes(given: &'a [u8]) -> Self {
+        Guarded::new(given, LENT_LETTER)
+    }
+
+    pub fn kept(&self) -> bool {
+        self.is_kept_by(|x, y| x == y)
+    }
+}
+
+impl<'a> Guarded<'a, f64> {
+    pub fn numbers(given: &'a [f64]) -> Self {
+        Guarded::new(given, f64::from_bits(LENT))
+    }
+
+    pub fn kept(&self) -> bool {
+        self.is_kept_by(|x, y| x.to_bits() == y.to_bits())
+    }
+}
+
+impl<'a, T: Copy> Guarded<'a, T> {
+    fn new(given: &'a [T], guard: T) -> Self {
+        let all = [&[guard; GUARD], given, &[guard; GUARD]].concat();
+        Guarded { given, guard, all }
+    }
+
+    pub fn inner(&self) -> &[T] {
+        &self.all[GUARD..self.all.len() - GUARD]
+    }
+
+    fn is_kept_by(&self, same: impl Fn(T, T) -> bool) -> bool {
+        let (before, rest) = self.all.split_at(GUARD);
+        let (inner, behind) = rest.split_at(self.given.len());
+        let guards = before.iter().chain(behind);
+        let given = inner.iter().zip(self.given);
+        guards.into_iter().all(|&x| same(x, self.guard))
+            && given.into_iter().all(|(&x, &y)| same(x, y))
+    }
+}
+
 /// What a call answered, and what stood afterwards in all that it was lent, the guards too.
 #[derive(Clone, Debug, PartialEq)]
 pub struct Told {

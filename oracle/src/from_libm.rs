@@ -9,11 +9,11 @@ use crate::paths::{JOINTS, POSE, Path};
 use crate::rust::untouched;
 
 /// Pivots and tips up to this many mm are those of a usual machine.
-const USUAL_LENGTH: f64 = 1000.0;
+pub(crate) const USUAL_LENGTH: f64 = 1000.0;
 
 /// Poses at least this many degrees from a pole are usual, on a path of which none is as near as this to the cone's border.
-const USUAL_CLEARANCE: f64 = 0.1;
-const OFF_BORDER: f64 = 1e-6;
+pub(crate) const USUAL_CLEARANCE: f64 = 0.1;
+pub(crate) const OFF_BORDER: f64 = 1e-6;
 
 #[derive(Default)]
 pub struct FromLibm {
@@ -104,7 +104,7 @@ impl Measured {
 }
 
 /// Two rotaries on x, y or z, one of them on the spindle, and pivots not far.
-fn usual(chain: &Chain) -> bool {
+pub(crate) fn usual(chain: &Chain) -> bool {
     let axes = chain.present().map(|rotary| rotary.axis);
     let whole = |axis: [f64; 3]| axis.iter().map(|x| x.abs()).sum::<f64>() == 1.0;
     let mut pivots = chain.present().flat_map(|rotary| rotary.pivot);

@@ -4,6 +4,8 @@
 use crate::inverse_calls::{Told, telling};
 use crate::inverse_cases::{Case, Entry};
 use crate::inverse_reference::{Answer, Sets, expected, with_libm};
+use crate::met::Differences;
+use crate::parts::Outcome;
 use crate::reading;
 use std::process::ExitCode;
 
@@ -28,9 +30,6 @@ const MACHINES: [&str; 6] = [
 
 const CHOICES: [&str; 3] = ["nearest", "first positive", "first negative"];
 
-/// Of the differences, as many are shown with all their inputs.
-const SHOWN: usize = 10;
-
 /// A joint set with libm that is farther than this from every one without, in degrees, is another one: at 36,000 degrees one place is
 /// 7.3e-12.
 const OTHER: f64 = 1e-11;
@@ -44,8 +43,7 @@ pub struct Tally {
     counts: Counts,
     machines: [u64; MACHINES.len()],
     choices: [u64; CHOICES.len()],
-    differences: u64,
-    examples: Vec<String>,
+    differences: Differences,
     from_libm: FromLibm,
 }
 
@@ -69,6 +67,21 @@ fn possible(count: usize) -> bool {
     })
 }
 
+impl Outcome for Tally {
+    fn add(&mut self, more: Tally) {
+        let met = self.met.as_flattened_mut().iter_mut();
+        let counts = self.counts.0.iter_mut();
+        let others = self.machines.iter_mut().chain(&mut self.choices);
+        let mores = more.met.as_flattened().iter().chain(&more.counts.0);
+        let mores = mores.chain(&more.machines).chain(&more.choices);
+        for (count, more) in met.chain(counts).chain(others).zip(mores) {
+            *count += more;
+        }
+        self.differences.add(more.differences);
+        self.from_libm.add(more.from_libm);
+    }
+}
+
 impl Tally {
     /// Holds what a call told to what it must tell.
     pub fn compare(&mut self, entry: Entry, case: &Case, told: &Told) {
@@ -77,12 +90,9 @@ impl Tally {
         self.see(entry, case, &answer);
         let finite = answer.iter().flatten().flatten().all(|x| x.is_finite());
         if *told != must || !finite {
-            self.differences += 1;
-            if self.examples.len() < SHOWN {
-                let name = entry.name();
-                let example = format!("{name}: {case}\n    told {told}\n    must {must}");
-                self.examples.push(example);
-            }
+            let name = entry.name();
+            self.differences
+                .note(|| format!("{name}: {case}\n    told {told}\n    must {must}"));
         }
     }
 
@@ -100,22 +110,8 @@ impl Tally {
         }
     }
 
-    pub fn add(&mut self, more: Tally) {
-        let met = self.met.as_flattened_mut().iter_mut();
-        let counts = self.counts.0.iter_mut();
-        let others = self.machines.iter_mut().chain(&mut self.choices);
-        let mores = more.met.as_flattened().iter().chain(&more.counts.0);
-        let mores = mores.chain(&more.machines).chain(&more.choices);
-        for (count, more) in met.chain(counts).chain(others).zip(mores) {
-            *count += more;
-        }
-        self.differences += more.differences;
-        self.examples.extend(more.examples);
-        self.from_libm.add(more.from_libm);
-    }
-
     pub fn differences(&self) -> u64 {
-        self.differences
+        self.differences.count()
     }
 
     /// Status 1 where there is a difference, or where something was met less often than `fewest` times; of a count a tenth of
@@ -123,11 +119,8 @@ impl Tally {
     pub fn print(&self, fewest: u64) -> ExitCode {
         let rare = self.print_met(fewest);
         self.from_libm.print();
-        for example in self.examples.iter().take(SHOWN) {
-            println!("{example}");
-        }
-        println!("inverses: {} differences", self.differences);
-        ExitCode::from(u8::from(self.differences > 0 || rare))
+        let different = self.differences.print("inverses");
+        ExitCode::from(u8::from(different || rare))
     }
 
     fn print_met(&self, fewest: u64) -> bool {

@@ -9,10 +9,20 @@ pub mod cases;
 pub mod chains;
 #[cfg(original)]
 pub mod courses;
+#[cfg(original)]
+pub mod divided;
+#[cfg(original)]
+pub mod divided_with_libm;
+#[cfg(original)]
+pub mod divisions;
 pub mod exact;
 pub mod floats;
 #[cfg(original)]
 pub mod from_libm;
+#[cfg(original)]
+pub mod halvings;
+#[cfg(original)]
+pub mod insertions;
 #[cfg(original)]
 pub mod inverse_calls;
 #[cfg(original)]
@@ -25,6 +35,7 @@ pub mod joints;
 pub mod lean;
 pub mod machines;
 pub mod maztubel;
+pub mod met;
 pub mod models;
 pub mod numbers;
 #[cfg(original)]
@@ -38,6 +49,8 @@ pub mod reading;
 #[cfg(original)]
 pub mod reference;
 #[cfg(original)]
+pub mod remarkable;
+#[cfg(original)]
 pub mod rust;
 #[cfg(original)]
 pub mod solved;
@@ -45,4 +58,8 @@ pub mod solved;
 pub mod tally;
 pub mod targets;
 #[cfg(original)]
+pub mod walks;
+#[cfg(original)]
 pub mod ways;
+#[cfg(original)]
+pub mod zigzags;

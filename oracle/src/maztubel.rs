@@ -124,6 +124,41 @@ unsafe extern "C" {
         at: &mut u64,
         letter: &mut u8,
     ) -> u32;
+    fn maztubel_subdivide_path(
+        chain: *const u8,
+        chain_length: usize,
+        poses: *const f64,
+        poses_length: usize,
+        joints: *const f64,
+        joints_length: usize,
+        chord: f64,
+        axis: f64,
+        out_poses: *mut f64,
+        out_poses_length: usize,
+        out_joints: *mut f64,
+        out_joints_length: usize,
+        inserted: &mut u64,
+        at: &mut u64,
+        letter: &mut u8,
+    ) -> u32;
+    fn maztubel_solve_and_divide(
+        chain: *const u8,
+        chain_length: usize,
+        poses: *const f64,
+        poses_length: usize,
+        start: *const f64,
+        start_length: usize,
+        cone: f64,
+        chord: f64,
+        axis: f64,
+        out_poses: *mut f64,
+        out_poses_length: usize,
+        out_joints: *mut f64,
+        out_joints_length: usize,
+        inserted: &mut u64,
+        at: &mut u64,
+        letter: &mut u8,
+    ) -> u32;
 }
 
 pub fn sine(x: f64) -> Result<f64, u32> {
@@ -364,6 +399,69 @@ pub fn solve_path(course: Course, joints: &mut [f64], at: &mut u64, letter: &mut
             joints.len(),
             at,
             letter,
+        )
+    }
+}
+
+/// What is divided where nothing is solved.
+#[derive(Clone, Copy)]
+pub struct Solved<'a> {
+    pub chain: &'a [u8],
+    pub poses: &'a [f64],
+    pub joints: &'a [f64],
+}
+
+/// What a division is lent to write to.
+pub struct Lent<'a> {
+    pub poses: &'a mut [f64],
+    pub joints: &'a mut [f64],
+    pub inserted: &'a mut u64,
+    pub at: &'a mut u64,
+    pub letter: &'a mut u8,
+}
+
+/// The tolerances are that of the chord and that of the axis.
+pub fn subdivide_path(solved: Solved, tolerances: [f64; 2], lent: Lent) -> u32 {
+    unsafe {
+        maztubel_subdivide_path(
+            solved.chain.as_ptr(),
+            solved.chain.len(),
+            solved.poses.as_ptr(),
+            solved.poses.len(),
+            solved.joints.as_ptr(),
+            solved.joints.len(),
+            tolerances[0],
+            tolerances[1],
+            lent.poses.as_mut_ptr(),
+            lent.poses.len(),
+            lent.joints.as_mut_ptr(),
+            lent.joints.len(),
+            lent.inserted,
+            lent.at,
+            lent.letter,
+        )
+    }
+}
+
+pub fn solve_and_divide(course: Course, tolerances: [f64; 2], lent: Lent) -> u32 {
+    unsafe {
+        maztubel_solve_and_divide(
+            course.chain.as_ptr(),
+            course.chain.len(),
+            course.poses.as_ptr(),
+            course.poses.len(),
+            course.start.as_ptr(),
+            course.start.len(),
+            course.cone,
+            tolerances[0],
+            tolerances[1],
+            lent.poses.as_mut_ptr(),
+            lent.poses.len(),
+            lent.joints.as_mut_ptr(),
+            lent.joints.len(),
+            lent.inserted,
+            lent.at,
+            lent.letter,
         )
     }
 }

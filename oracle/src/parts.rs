@@ -3,7 +3,13 @@
 
 use crate::random::Random;
 use std::env;
+use std::process::ExitCode;
 use std::thread;
+
+/// What a comparison comes to: nothing at first, and more with each part.
+pub trait Outcome: Default + Send {
+    fn add(&mut self, more: Self);
+}
 
 /// A whole number from the command line.
 pub fn argument(place: usize, otherwise: u64) -> u64 {
@@ -14,16 +20,30 @@ pub fn argument(place: usize, otherwise: u64) -> u64 {
         .unwrap_or_else(|_| panic!("'{word}' is no whole number: [SEED] [MILLIONS]"))
 }
 
-/// Does the work of each part, and gives what each thread came to.
-pub fn shared_out<T: Send>(
+/// Does the work of each part, and gives what all come to.
+pub fn compared<T: Outcome>(seed: u64, parts: u64, work: impl Fn(&mut T, &mut Random) + Sync) -> T {
+    let mut total = T::default();
+    for more in shared_out(seed, parts, &work) {
+        total.add(more);
+    }
+    total
+}
+
+/// The status of a comparison that needs the Rust, where there is none.
+pub fn without_the_rust() -> ExitCode {
+    println!("the Rust that is compared is not beside this repository");
+    ExitCode::from(2)
+}
+
+/// What each thread came to.
+fn shared_out<T: Outcome>(
     seed: u64,
     parts: u64,
-    start: impl Fn() -> T + Sync,
-    work: impl Fn(&mut T, &mut Random) + Sync,
+    work: &(impl Fn(&mut T, &mut Random) + Sync),
 ) -> Vec<T> {
     let threads = thread::available_parallelism().map_or(1, |n| n.get() as u64);
     let one = |first: u64| {
-        let mut sum = start();
+        let mut sum = T::default();
         for part in (first..parts).step_by(threads as usize) {
             let mut random = Random::new(Random::new(seed).bits() ^ Random::new(part).bits());
             work(&mut sum, &mut random);

@@ -49,7 +49,7 @@ impl Path {
         path
     }
 
-    fn of_course(mut chain: Chain, count: usize, random: &mut Random) -> Self {
+    pub fn of_course(mut chain: Chain, count: usize, random: &mut Random) -> Self {
         let mut path = Drawing::new(chain, random).path(count, random);
         match random.below(8) {
             0 => path.cone_to_clearance(&chain, random),
@@ -195,7 +195,7 @@ fn limits_at(angles: &[f64], random: &mut Random) -> [f64; 2] {
     }
 }
 
-fn bad_cone(random: &mut Random) -> f64 {
+pub fn bad_cone(random: &mut Random) -> f64 {
     match random.below(6) {
         0 => not_finite(random),
         1 => random.one_of(&[0.0, -0.0, -f64::from_bits(1), -1.0, -10.0]),

@@ -43,8 +43,10 @@ macro_rules! on_plain_numbers {
             use crate::models::BOX;
             use crate::original::IrError;
             use crate::original::$build::geom::Vec3;
-            pub use crate::original::$build::kinematics::solve_path as solve;
             use crate::original::$build::kinematics::*;
+            pub use crate::original::$build::kinematics::{
+                solve_path as solve, subdivide_path as subdivide,
+            };
             use crate::original::$build::rotary::RotaryLimits;
 
             /// The Rust's answer in numbers, or its words.
@@ -202,6 +204,24 @@ macro_rules! on_plain_numbers {
                 let start = (!start.is_empty()).then(|| joint_set(start));
                 let joints = solve(setup, &poses, start, cone).map_err(words)?;
                 Ok(joints.into_iter().flat_map(set_numbers).collect())
+            }
+
+            /// The divided poses and their joints.
+            pub fn subdivide_path(
+                setup: &FiveAxisSetup,
+                poses: &[f64],
+                joints: &[f64],
+                [chord, axis]: [f64; 2],
+            ) -> Told<[Vec<f64>; 2]> {
+                let poses: Vec<ToolPose> = poses.chunks(6).map(tool_pose).collect();
+                let joints: Vec<Joints> = joints.chunks(5).map(joint_set).collect();
+                let divided = subdivide(setup, "p", &poses, &joints, chord, axis);
+                let (poses, joints) = divided.map_err(words)?;
+                let poses = poses.into_iter().map(|pose| [pose.tip, pose.axis]);
+                Ok([
+                    poses.flat_map(|pair| numbers(&pair)).collect(),
+                    joints.into_iter().flat_map(set_numbers).collect(),
+                ])
             }
 
             fn of_frame(frame: Rigid) -> Vec<f64> {

@@ -2,7 +2,7 @@
 //! numbers; document 01 where it has not: the lengths (20), the bytes (29), the sizes (17), the room (28) and the angles of an
 //! answer (26), each in its place.
 
-use crate::calls::{GUARD, LENT, LENT_AT, LENT_LETTER, Told};
+use crate::calls::{GUARD, Guarded, LENT, LENT_AT, LENT_LETTER, Told};
 use crate::joints::MOST_ANGLE;
 use crate::maztubel::{self, Course};
 use crate::original::ported::kinematics::FiveAxisSetup;
@@ -100,7 +100,7 @@ fn along(setup: &FiveAxisSetup, path: &Path) -> Answer {
     }
 }
 
-fn far(tip: &[f64]) -> bool {
+pub(crate) fn far(tip: &[f64]) -> bool {
     finite(tip) && tip.iter().any(|&x| exceeds(x, MOST_TIP))
 }
 
@@ -133,42 +133,27 @@ fn cause(words: &str, pose: usize) -> (u32, u8) {
 
 /// Calls the export. Each input stands between guards too, and all must stand as it did afterwards.
 pub fn ask(path: &Path) -> Told {
-    let chain = guarded(&path.chain, LENT_LETTER);
-    let poses = guarded(&path.poses, f64::from_bits(LENT));
-    let start = guarded(&path.start, f64::from_bits(LENT));
+    let chain = Guarded::bytes(&path.chain);
+    let [poses, start] = [&path.poses, &path.start].map(|numbers| Guarded::numbers(numbers));
     let mut numbers = vec![f64::from_bits(LENT); GUARD + path.room + GUARD];
     let mut at = [LENT_AT; 3];
     let mut letter = [LENT_LETTER; 3];
     let course = Course {
-        chain: inner(&chain),
-        poses: inner(&poses),
-        start: inner(&start),
+        chain: chain.inner(),
+        poses: poses.inner(),
+        start: start.inner(),
         cone: path.cone,
     };
     let lent = &mut numbers[GUARD..GUARD + path.room];
     let number = maztubel::solve_path(course, lent, &mut at[1], &mut letter[1]);
-    let bits = |numbers: &[f64]| numbers.iter().map(|x| x.to_bits()).collect::<Vec<_>>();
-    let poses_kept = bits(&poses) == bits(&guarded(&path.poses, f64::from_bits(LENT)));
-    let start_kept = bits(&start) == bits(&guarded(&path.start, f64::from_bits(LENT)));
-    let chain_kept = chain == guarded(&path.chain, LENT_LETTER);
-    assert!(
-        poses_kept && start_kept && chain_kept,
-        "an input was written to: {path}"
-    );
+    let kept = chain.kept() && poses.kept() && start.kept();
+    assert!(kept, "an input was written to: {path}");
     Told {
         number,
         at,
         letter,
-        numbers: bits(&numbers),
+        numbers: numbers.iter().map(|x| x.to_bits()).collect(),
     }
-}
-
-fn guarded<T: Copy>(items: &[T], guard: T) -> Vec<T> {
-    [&[guard; GUARD], items, &[guard; GUARD]].concat()
-}
-
-fn inner<T>(guarded: &[T]) -> &[T] {
-    &guarded[GUARD..guarded.len() - GUARD]
 }
 
 /// What the call tells where it answers as it must.

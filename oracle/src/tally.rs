@@ -3,15 +3,14 @@
 
 use crate::calls::{Told, telling};
 use crate::cases::{Case, Entry};
+use crate::met::Differences;
+use crate::parts::Outcome;
 use crate::reading;
 use crate::reference::{expected, with_libm};
 use std::process::ExitCode;
 
 /// One more than the last number of document 01's table.
 const NUMBERS: usize = 30;
-
-/// Of the differences, as many are shown with all their inputs.
-const SHOWN: usize = 10;
 
 /// Positions, pivots and tools up to this many mm, and angles up to this many degrees, are those of a usual machine.
 const USUAL_LENGTH: f64 = 1000.0;
@@ -20,8 +19,7 @@ const USUAL_ANGLE: f64 = 360.0;
 #[derive(Default)]
 pub struct Tally {
     met: [[u64; NUMBERS]; Entry::ALL.len()],
-    differences: u64,
-    examples: Vec<String>,
+    differences: Differences,
     from_libm: [FromLibm; Entry::ALL.len()],
 }
 
@@ -37,6 +35,19 @@ fn answered(entry: Entry) -> &'static [u32] {
     }
 }
 
+impl Outcome for Tally {
+    fn add(&mut self, more: Tally) {
+        let all = self.met.as_flattened_mut().iter_mut();
+        for (count, more) in all.zip(more.met.as_flattened()) {
+            *count += more;
+        }
+        self.differences.add(more.differences);
+        for (most, more) in self.from_libm.iter_mut().zip(more.from_libm) {
+            most.add(more);
+        }
+    }
+}
+
 impl Tally {
     /// Holds what a call told to what it must tell.
     pub fn compare(&mut self, entry: Entry, case: &Case, told: &Told) {
@@ -45,12 +56,9 @@ impl Tally {
         self.met[entry as usize][must.number as usize] += 1;
         let all_finite = answer.iter().flatten().all(|x| x.is_finite());
         if *told != must || !all_finite {
-            self.differences += 1;
-            if self.examples.len() < SHOWN {
-                let name = entry.name();
-                let example = format!("{name}: {case}\n    told {told}\n    must {must}");
-                self.examples.push(example);
-            }
+            let name = entry.name();
+            self.differences
+                .note(|| format!("{name}: {case}\n    told {told}\n    must {must}"));
         } else if let Ok(answers) = &answer
             && let Some(libms) = with_libm(entry, case)
         {
@@ -58,20 +66,8 @@ impl Tally {
         }
     }
 
-    pub fn add(&mut self, more: Tally) {
-        let all = self.met.as_flattened_mut().iter_mut();
-        for (count, more) in all.zip(more.met.as_flattened()) {
-            *count += more;
-        }
-        self.differences += more.differences;
-        self.examples.extend(more.examples);
-        for (most, more) in self.from_libm.iter_mut().zip(more.from_libm) {
-            most.add(more);
-        }
-    }
-
     pub fn differences(&self) -> u64 {
-        self.differences
+        self.differences.count()
     }
 
     /// Status 1 where there is a difference, or where some answer was met less often than `fewest` times.
@@ -80,11 +76,8 @@ impl Tally {
         for entry in Entry::ALL {
             self.from_libm[entry as usize].print(entry);
         }
-        for example in self.examples.iter().take(SHOWN) {
-            println!("{example}");
-        }
-        println!("chains: {} differences", self.differences);
-        ExitCode::from(u8::from(self.differences > 0 || rare))
+        let different = self.differences.print("chains");
+        ExitCode::from(u8::from(different || rare))
     }
 
     /// A row for each number. Whether one was met too seldom.

@@ -5,16 +5,14 @@ use crate::calls::Told;
 use crate::chains::Chain;
 use crate::from_libm::FromLibm;
 use crate::lean::{cross, dot, unit};
+use crate::met::{Differences, Met};
 use crate::original::ported::kinematics::Way;
+use crate::parts::Outcome;
 use crate::paths::{JOINTS, POSE, Path};
 use crate::reading;
 use crate::rust::ported;
 use crate::solved::{Answer, Refusal, ask, expected, reduced, telling};
-use std::collections::BTreeMap;
 use std::process::ExitCode;
-
-/// Of the differences, as many are shown with all their inputs.
-const SHOWN: usize = 10;
 
 /// Of a path so many poses are looked at for the ways to them.
 const LOOKED_AT: usize = 40;
@@ -70,7 +68,7 @@ const EXACTLY: [&str; 5] = [
 ];
 
 /// The machines, each with the limits of its rotaries.
-const MACHINES: [&str; 6] = ["T", "H", "TT", "HH", "TH", "HT"];
+pub(crate) const MACHINES: [&str; 6] = ["T", "H", "TT", "HH", "TH", "HT"];
 const LIMITED: [&str; 4] = [
     "no limits",
     "first limited",
@@ -80,11 +78,19 @@ const LIMITED: [&str; 4] = [
 
 #[derive(Default)]
 pub struct Ways {
-    met: BTreeMap<String, u64>,
+    met: Met,
     poses: u64,
-    differences: u64,
-    examples: Vec<String>,
+    differences: Differences,
     from_libm: FromLibm,
+}
+
+impl Outcome for Ways {
+    fn add(&mut self, more: Ways) {
+        self.met.add(more.met);
+        self.poses += more.poses;
+        self.differences.add(more.differences);
+        self.from_libm.add(more.from_libm);
+    }
 }
 
 impl Ways {
@@ -96,13 +102,10 @@ impl Ways {
     pub fn hold(&mut self, path: &Path, told: &Told) {
         let answer = expected(path);
         let must = telling(path, &answer);
-        self.count(answered(&answer));
+        self.met.count(answered(&answer));
         let all_finite = answer.iter().flatten().all(|x| x.is_finite());
         if *told != must || !all_finite {
-            self.differences += 1;
-            if self.examples.len() < SHOWN {
-                self.examples.push(example(path, told));
-            }
+            self.differences.note(|| example(path, told));
         } else if let Ok(joints) = &answer {
             self.poses += (joints.len() / JOINTS) as u64;
             self.look(path, joints);
@@ -113,16 +116,12 @@ impl Ways {
         }
     }
 
-    fn count(&mut self, what: String) {
-        *self.met.entry(what).or_default() += 1;
-    }
-
     /// At a path that is served.
     fn look(&mut self, path: &Path, joints: &[f64]) {
         let chain = reading::chain(&path.chain).expect("a chain that is served");
-        self.count(machine(&chain));
+        self.met.count(machine(&chain));
         let long = format!("served, {} poses", path.poses.len() / POSE);
-        self.meet(&long, LONG.contains(&long.as_str()));
+        self.met.count_if(&long, LONG.contains(&long.as_str()));
         let rust = ported::setup(&chain).kinematics;
         let mut previous = match path.start[..] {
             [_, _, _, first, second] => [first, second],
@@ -133,29 +132,25 @@ impl Ways {
             let axis = ported::tool_pose(pose).axis;
             let way = rust.way(&ported::tool_pose(pose), previous, path.cone);
             let (way, all) = way.expect("a pose that is solved");
-            self.count(format!("{}, {}", words(way, &all, &chain), kind(&chain)));
-            self.meet(EXACTLY[0], as_near(&all, previous));
+            self.met
+                .count(format!("{}, {}", words(way, &all, &chain), kind(&chain)));
+            self.met.count_if(EXACTLY[0], as_near(&all, previous));
             let in_cone = matches!(way, Way::Locked | Way::Pole);
-            self.meet(
+            self.met.count_if(
                 EXACTLY[1],
                 in_cone && rust.clearance(axis) == Some(path.cone),
             );
             for (slot, rotary) in chain.present().enumerate() {
                 let angle = set[3 + slot];
                 let limit = rotary.limited == 1 && rotary.limits.contains(&angle);
-                self.meet(EXACTLY[2], limit);
-                self.meet(EXACTLY[3], (angle - previous[slot]).abs() == 180.0);
-                self.meet(EXACTLY[4], angle.abs() == 36_000.0);
+                self.met.count_if(EXACTLY[2], limit);
+                self.met
+                    .count_if(EXACTLY[3], (angle - previous[slot]).abs() == 180.0);
+                self.met.count_if(EXACTLY[4], angle.abs() == 36_000.0);
             }
             previous = [set[3], set[4]];
         }
         self.from_libm.see(path, &chain, joints);
-    }
-
-    fn meet(&mut self, what: &str, met: bool) {
-        if met {
-            self.count(what.to_owned());
-        }
     }
 
     /// At a pose that is refused.
@@ -166,50 +161,25 @@ impl Ways {
         let in_cone = rust
             .clearance(axis)
             .is_some_and(|degrees| degrees <= path.cone);
-        self.meet("24 in the cone", refusal.number == 24 && in_cone);
+        self.met
+            .count_if("24 in the cone", refusal.number == 24 && in_cone);
         let nearly = refusal.number == 25 && rust.nearly_reaches(axis);
-        self.meet("25 within 1e-7 of the reach", nearly);
-    }
-
-    pub fn add(&mut self, more: Ways) {
-        for (what, count) in more.met {
-            *self.met.entry(what).or_default() += count;
-        }
-        self.poses += more.poses;
-        self.differences += more.differences;
-        self.examples.extend(more.examples);
-        self.from_libm.add(more.from_libm);
+        self.met.count_if("25 within 1e-7 of the reach", nearly);
     }
 
     pub fn differences(&self) -> u64 {
-        self.differences
-    }
-
-    fn met(&self, what: &str) -> u64 {
-        self.met.get(what).copied().unwrap_or(0)
+        self.differences.count()
     }
 
     /// Status 1 where there is a difference, or where something was met less often than `fewest` times.
     pub fn print(&self, fewest: u64) -> ExitCode {
-        let mut rare = Vec::new();
         let long = LONG.map(|what| (what.to_owned(), 1));
-        for (what, fewest) in all().into_iter().map(|what| (what, fewest)).chain(long) {
-            let count = self.met(&what);
-            println!("{what:48} {count:12}");
-            if count < fewest {
-                rare.push(format!("met less often than {fewest} times: {what}"));
-            }
-        }
+        let all = all().into_iter().map(|what| (what, fewest)).chain(long);
+        let rare = self.met.print(all);
         println!("{} poses of served paths", self.poses);
         self.from_libm.print();
-        for what in &rare {
-            println!("{what}");
-        }
-        for example in self.examples.iter().take(SHOWN) {
-            println!("{example}");
-        }
-        println!("paths: {} differences", self.differences);
-        ExitCode::from(u8::from(self.differences > 0 || !rare.is_empty()))
+        let different = self.differences.print("paths");
+        ExitCode::from(u8::from(different || rare))
     }
 }
 
@@ -277,7 +247,7 @@ fn answered(answer: &Answer) -> String {
     }
 }
 
-fn kind(chain: &Chain) -> String {
+pub(crate) fn kind(chain: &Chain) -> String {
     let carrier = |carrier| if carrier == 0 { 'T' } else { 'H' };
     chain
         .present()

@@ -9,47 +9,40 @@
 
 use std::process::ExitCode;
 
-#[cfg(original)]
 fn main() -> ExitCode {
-    use comparison::{FEWEST, PARTS, compare_part};
-    use oracle::parts::{argument, shared_out};
-    use oracle::tally::Tally;
-    let seed = argument(1, 1);
-    let millions = argument(2, 6);
-    println!(
-        "seed {seed}, {millions} million chains, {} models",
-        60_000 * millions
-    );
-    let parts = millions * PARTS;
-    let mut total = Tally::default();
-    for tally in shared_out(seed, parts, Tally::default, compare_part) {
-        total.add(tally);
-    }
-    total.print(parts * FEWEST)
-}
-
-#[cfg(not(original))]
-fn main() -> ExitCode {
-    println!("the Rust that is compared is not beside this repository");
-    ExitCode::from(2)
+    #[cfg(original)]
+    return comparison::run();
+    #[cfg(not(original))]
+    oracle::parts::without_the_rust()
 }
 
 #[cfg(original)]
 mod comparison {
     use oracle::calls::ask;
     use oracle::cases::{Case, Entry};
+    use oracle::parts::{argument, compared};
     use oracle::random::Random;
     use oracle::tally::Tally;
+    use std::process::ExitCode;
 
     /// How many parts a million has, and what is compared in each.
-    pub const PARTS: u64 = 10;
+    const PARTS: u64 = 10;
     const CHAINS: usize = 100_000;
     const MODELS: usize = 6_000;
 
     /// How often each answer of each entry must be met in a part, on the average.
-    pub const FEWEST: u64 = 10;
+    const FEWEST: u64 = 10;
 
-    pub fn compare_part(tally: &mut Tally, random: &mut Random) {
+    pub fn run() -> ExitCode {
+        let seed = argument(1, 1);
+        let millions = argument(2, 6);
+        let models = 60_000 * millions;
+        println!("seed {seed}, {millions} million chains, {models} models");
+        let parts = millions * PARTS;
+        compared(seed, parts, compare_part).print(parts * FEWEST)
+    }
+
+    fn compare_part(tally: &mut Tally, random: &mut Random) {
         for _ in 0..CHAINS {
             let case = Case::of_chain(random);
             for entry in Entry::OF_CHAINS {

@@ -58,6 +58,5 @@ fn main() {
 
 #[cfg(not(original))]
 fn main() -> std::process::ExitCode {
-    println!("the Rust that is compared is not beside this repository");
-    std::process::ExitCode::from(2)
+    oracle::parts::without_the_rust()
 }

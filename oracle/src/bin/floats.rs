@@ -6,7 +6,7 @@
 //! status 1 where anything differs.
 
 use oracle::floats::{EDGES, PAIRED, any, beside, maximum, minimum, same, total_order};
-use oracle::parts::{argument, shared_out};
+use oracle::parts::{Outcome, argument, compared};
 use oracle::probe;
 use oracle::random::Random;
 use std::process::ExitCode;
@@ -57,10 +57,7 @@ fn main() -> ExitCode {
     let seed = argument(1, 1);
     let parts = argument(2, 50);
     println!("seed {seed}, {parts} million doubles");
-    let mut total = Tallies::new();
-    for tallies in shared_out(seed, parts, Tallies::new, compare_part) {
-        total.add(tallies);
-    }
+    let mut total = compared(seed, parts, compare_part);
     compare_edges(&mut total);
     total.print()
 }
@@ -157,13 +154,21 @@ fn spelled(x: f64) -> String {
     format!("{x:e} [{:016X}]", x.to_bits())
 }
 
+#[derive(Default)]
 struct Tallies(Vec<Tally>);
 
-impl Tallies {
-    fn new() -> Self {
-        Tallies(Vec::new())
+impl Outcome for Tallies {
+    fn add(&mut self, more: Tallies) {
+        for tally in more.0 {
+            let sum = self.of(tally.name);
+            sum.compared += tally.compared;
+            sum.different += tally.different;
+            sum.examples.extend(tally.examples);
+        }
     }
+}
 
+impl Tallies {
     fn of(&mut self, name: &'static str) -> &mut Tally {
         let at = self
             .0
@@ -179,15 +184,6 @@ impl Tallies {
                 self.0.len() - 1
             });
         &mut self.0[at]
-    }
-
-    fn add(&mut self, more: Tallies) {
-        for tally in more.0 {
-            let sum = self.of(tally.name);
-            sum.compared += tally.compared;
-            sum.different += tally.different;
-            sum.examples.extend(tally.examples);
-        }
     }
 
     fn print(&self) -> ExitCode {

@@ -10,26 +10,11 @@
 
 use std::process::ExitCode;
 
-#[cfg(original)]
 fn main() -> ExitCode {
-    use comparison::{FEWEST, PARTS, compare_part};
-    use oracle::inverse_tally::Tally;
-    use oracle::parts::{argument, shared_out};
-    let seed = argument(1, 1);
-    let millions = argument(2, 5);
-    println!("seed {seed}, {millions} million cases");
-    let parts = millions * PARTS;
-    let mut total = Tally::default();
-    for tally in shared_out(seed, parts, Tally::default, compare_part) {
-        total.add(tally);
-    }
-    total.print(parts * FEWEST)
-}
-
-#[cfg(not(original))]
-fn main() -> ExitCode {
-    println!("the Rust that is compared is not beside this repository");
-    ExitCode::from(2)
+    #[cfg(original)]
+    return comparison::run();
+    #[cfg(not(original))]
+    oracle::parts::without_the_rust()
 }
 
 #[cfg(original)]
@@ -37,16 +22,26 @@ mod comparison {
     use oracle::inverse_calls::ask;
     use oracle::inverse_cases::{Case, Entry};
     use oracle::inverse_tally::Tally;
+    use oracle::parts::{argument, compared};
     use oracle::random::Random;
+    use std::process::ExitCode;
 
     /// How many parts a million has, and how many cases a part.
-    pub const PARTS: u64 = 20;
+    const PARTS: u64 = 20;
     const CASES: usize = 50_000;
 
     /// How often each answer must be met in a part, on the average.
-    pub const FEWEST: u64 = 1;
+    const FEWEST: u64 = 1;
 
-    pub fn compare_part(tally: &mut Tally, random: &mut Random) {
+    pub fn run() -> ExitCode {
+        let seed = argument(1, 1);
+        let millions = argument(2, 5);
+        println!("seed {seed}, {millions} million cases");
+        let parts = millions * PARTS;
+        compared(seed, parts, compare_part).print(parts * FEWEST)
+    }
+
+    fn compare_part(tally: &mut Tally, random: &mut Random) {
         for _ in 0..CASES {
             let case = Case::new(random);
             for entry in Entry::ALL {

@@ -10,50 +10,45 @@
 
 use std::process::ExitCode;
 
-#[cfg(original)]
 fn main() -> ExitCode {
-    use comparison::{FEWEST, PATHS, compare_long, compare_part};
-    use oracle::parts::{argument, shared_out};
-    use oracle::random::Random;
-    use oracle::ways::Ways;
-    let seed = argument(1, 1);
-    let thousands = argument(2, 320);
-    println!("seed {seed}, {thousands} thousand paths");
-    let parts = (1000 * thousands).div_ceil(PATHS);
-    let mut total = Ways::default();
-    for ways in shared_out(seed, parts, Ways::default, compare_part) {
-        total.add(ways);
-    }
-    compare_long(&mut total, &mut Random::new(seed));
-    total.print((parts * FEWEST).div_ceil(10))
-}
-
-#[cfg(not(original))]
-fn main() -> ExitCode {
-    println!("the Rust that is compared is not beside this repository");
-    ExitCode::from(2)
+    #[cfg(original)]
+    return comparison::run();
+    #[cfg(not(original))]
+    oracle::parts::without_the_rust()
 }
 
 #[cfg(original)]
 mod comparison {
+    use oracle::parts::{argument, compared};
     use oracle::paths::Path;
     use oracle::random::Random;
     use oracle::solved::MOST_POSES;
     use oracle::ways::Ways;
+    use std::process::ExitCode;
 
     /// How many paths there are in a part.
-    pub const PATHS: u64 = 1000;
+    const PATHS: u64 = 1000;
 
     /// How often each answer and each way must be met in ten parts, on the average.
-    pub const FEWEST: u64 = 4;
+    const FEWEST: u64 = 4;
 
-    pub fn compare_part(ways: &mut Ways, random: &mut Random) {
+    pub fn run() -> ExitCode {
+        let seed = argument(1, 1);
+        let thousands = argument(2, 320);
+        println!("seed {seed}, {thousands} thousand paths");
+        let parts = (1000 * thousands).div_ceil(PATHS);
+        let mut total = compared(seed, parts, compare_part);
+        compare_long(&mut total, &mut Random::new(seed));
+        total.print((parts * FEWEST).div_ceil(10))
+    }
+
+    fn compare_part(ways: &mut Ways, random: &mut Random) {
         for _ in 0..PATHS {
             ways.compare(&Path::drawn(random));
         }
     }
 
-    pub fn compare_long(ways: &mut Ways, random: &mut Random) {
+    fn compare_long(ways: &mut Ways, random: &mut Random) {
         for _ in 0..16 {
             ways.compare(&Path::long(5000, random));
         }

@@ -8,7 +8,7 @@
 use oracle::angles::{self, MOST};
 use oracle::exact::{Exact, Sums};
 use oracle::maztubel::{self, OfEach, OfOne};
-use oracle::parts::{argument, shared_out};
+use oracle::parts::{Outcome, argument, compared};
 use oracle::probe;
 use oracle::random::Random;
 use std::f64::consts::PI;
@@ -36,13 +36,8 @@ fn main() -> ExitCode {
     let parts = argument(2, 20);
     println!("seed {seed}, {parts} million angles");
     let sums = Sums::default();
-    let mut total = Tallies::default();
-    for tallies in shared_out(seed, parts, Tallies::default, |tallies, random| {
-        compare_part(tallies, &sums, random)
-    }) {
-        total.add(tallies);
-    }
-    total.print()
+    let work = |tallies: &mut Tallies, random: &mut Random| compare_part(tallies, &sums, random);
+    compared(seed, parts, work).print()
 }
 
 fn compare_part(tallies: &mut Tallies, sums: &Sums, random: &mut Random) {
@@ -482,7 +477,7 @@ struct Tallies {
     slices: Tally,
 }
 
-impl Tallies {
+impl Outcome for Tallies {
     fn add(&mut self, more: Tallies) {
         self.sine.add(more.sine);
         self.cosine.add(more.cosine);
@@ -491,7 +486,9 @@ impl Tallies {
         self.arccosine.add(more.arccosine);
         self.slices.add(more.slices);
     }
+}
 
+impl Tallies {
     fn print(&self) -> ExitCode {
         let each = [
             ("sine", "from S", &self.sine),

@@ -1,0 +1,77 @@
+//! What a comparison notes: how often each thing was met, and the differences, the first of them with all their inputs.
+
+use std::collections::BTreeMap;
+
+/// Of the differences, as many are shown.
+const SHOWN: usize = 10;
+
+#[derive(Default)]
+pub struct Met(BTreeMap<String, u64>);
+
+impl Met {
+    pub fn count(&mut self, what: impl Into<String>) {
+        *self.0.entry(what.into()).or_default() += 1;
+    }
+
+    pub fn count_if(&mut self, what: &str, met: bool) {
+        if met {
+            self.count(what);
+        }
+    }
+
+    pub fn add(&mut self, more: Met) {
+        for (what, count) in more.0 {
+            *self.0.entry(what).or_default() += count;
+        }
+    }
+
+    /// A row for each of `all`, which comes with how often it must be met. Whether one was met less often.
+    pub fn print(&self, all: impl IntoIterator<Item = (String, u64)>) -> bool {
+        let mut rare = Vec::new();
+        for (what, fewest) in all {
+            let count = self.0.get(&what).copied().unwrap_or(0);
+            println!("{what:48} {count:12}");
+            if count < fewest {
+                rare.push(format!("met less often than {fewest} times: {what}"));
+            }
+        }
+        for what in &rare {
+            println!("{what}");
+        }
+        !rare.is_empty()
+    }
+}
+
+#[derive(Default)]
+pub struct Differences {
+    count: u64,
+    examples: Vec<String>,
+}
+
+impl Differences {
+    /// The words for it are asked for only where they are shown.
+    pub fn note(&mut self, example: impl FnOnce() -> String) {
+        self.count += 1;
+        if self.examples.len() < SHOWN {
+            self.examples.push(example());
+        }
+    }
+
+    pub fn add(&mut self, more: Differences) {
+        self.count += more.count;
+        self.examples.extend(more.examples);
+    }
+
+    pub fn count(&self) -> u64 {
+        self.count
+    }
+
+    /// Whether there are any.
+    pub fn print(&self, comparison: &str) -> bool {
+        for example in self.examples.iter().take(SHOWN) {
+            println!("{example}");
+        }
+        println!("{comparison}: {} differences", self.count);
+        self.count > 0
+    }
+}
