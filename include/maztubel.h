@@ -1,7 +1,7 @@
 /* The exports of the static library maztubel (`rt staticlib maztubel` writes target/staticlib/libmaztubel.a).
  *
  * Every function answers every argument: 0 and its answers are written, or a refusal's number and what it was lent is kept, but
- * where 21 and 22 say otherwise. The numbers are those of crates/refusal.
+ * where a comment below says that it is cleared. The numbers are those of crates/refusal.
  *
  * A slice is a pointer and then a length, counted in elements. What is lent to one call does not overlap, a pointer is aligned for
  * its element, and NULL goes with the length 0 alone. A lent number is never NULL.
@@ -52,12 +52,28 @@ enum {
     MAZTUBEL_NOT_FINITE = 16,
     /* a size is above its limit */
     MAZTUBEL_TOO_LARGE = 17,
+    /* the cone is refused */
+    MAZTUBEL_CONE = 18,
+    /* a tolerance is refused */
+    MAZTUBEL_TOLERANCE = 19,
     /* lengths differ, or a buffer has no whole records */
     MAZTUBEL_LENGTHS_DIFFER = 20,
     /* the tool axis is not reachable */
     MAZTUBEL_NOT_REACHABLE = 21,
     /* the tool axis is reached outside the rotary limits alone */
     MAZTUBEL_OUTSIDE_LIMITS = 22,
+    /* a pose flips the rotary branch */
+    MAZTUBEL_BRANCH_FLIPS = 23,
+    /* a pose leaves the limits of an axis, whose letter is told */
+    MAZTUBEL_LEAVES_AXIS = 24,
+    /* a pose is unreachable */
+    MAZTUBEL_POSE_UNREACHABLE = 25,
+    /* a pose's angle is past 36,000 */
+    MAZTUBEL_ANGLE_TOO_LARGE = 26,
+    /* an insertion would be the 10,001st */
+    MAZTUBEL_TOO_MANY_INSERTIONS = 27,
+    /* there is no space for the next pose */
+    MAZTUBEL_NO_SPACE = 28,
     /* the bytes of a job or a model are malformed */
     MAZTUBEL_MALFORMED = 29
 };
@@ -179,6 +195,33 @@ uint32_t maztubel_link_in_part(const uint8_t *name, size_t name_length, const ui
 uint32_t maztubel_solve_path(const uint8_t *chain, size_t chain_length, const double *poses, size_t poses_length,
                              const double *start, size_t start_length, double cone, double *joints, size_t joints_length,
                              uint64_t *at, uint8_t *letter);
+
+/* ---- division
+ *
+ * Poses are inserted halfway between two neighbours until both tolerances hold: the chord, in the lengths' unit, and the axis, in
+ * degrees, each finite and above 0. Both calls write the divided path to two outputs, 6 doubles a pose and 5 a joint set; the space
+ * is the smaller of the two, in records. The given poses are copied bit for bit, and +0.0 stands behind the path in both.
+ *
+ * Every call writes *inserted, *at and *letter. *inserted is the number of poses inserted, with 27 and 28 the number so far, with
+ * any other refusal 0; *at and *letter are those of a chain's calls and, where poses are solved, of maztubel_solve_path. 27 is an
+ * insertion that would be the 10,001st, else 28 one for which there is no space: with these both outputs are all +0.0. */
+
+/* Divides the given poses with their given joints. 20 for a buffer of broken records, 29, 19, 20 for joint sets that are not one
+ * for each pose, 3 to 9, 16 for any number of a pose or a joint set, 17 for a pivot, a tip, a position, an angle or more than 100,000
+ * poses: with these both outputs stay as they were. Then 28 with *inserted 0 where there is no space for the given poses, 27 and 28:
+ * with these both are all +0.0. */
+uint32_t maztubel_subdivide_path(const uint8_t *chain, size_t chain_length, const double *poses, size_t poses_length,
+                                 const double *joints, size_t joints_length, double chord, double axis, double *out_poses,
+                                 size_t out_poses_length, double *out_joints, size_t out_joints_length, uint64_t *inserted,
+                                 uint64_t *at, uint8_t *letter);
+
+/* Solves the poses as maztubel_solve_path does, and divides them with the joints that it gives. 20 for a buffer of broken records, 29,
+ * 18, 3 to 9, 16 for the start, 17 and 28 with *inserted 0 where there is no space for the given poses: with these both outputs stay
+ * as they were. Then, with both outputs all +0.0: what a pose is refused with, 19 for a tolerance, 27 and 28. */
+uint32_t maztubel_solve_and_divide(const uint8_t *chain, size_t chain_length, const double *poses, size_t poses_length,
+                                   const double *start, size_t start_length, double cone, double chord, double axis,
+                                   double *out_poses, size_t out_poses_length, double *out_joints, size_t out_joints_length,
+                                   uint64_t *inserted, uint64_t *at, uint8_t *letter);
 
 #ifdef __cplusplus
 }

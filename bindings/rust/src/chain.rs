@@ -1,0 +1,147 @@
+//! Chains of rotaries, their bytes, and the forward map.
+
+use crate::flat;
+use crate::pose::{Joints, Pose};
+use crate::refusal::Refusal;
+
+/// What a rotary turns.
+#[derive(Clone, Copy, Debug, PartialEq, Eq, Hash)]
+pub enum Carrier {
+    /// The part, on a table.
+    Table,
+    /// The tool, in a head.
+    Head,
+}
+
+/// The angles in degrees that a rotary may have, both ends included.
+#[derive(Clone, Copy, Debug, PartialEq)]
+pub struct Limits {
+    /// The lower limit.
+    pub min: f64,
+    /// The upper limit, above the lower.
+    pub max: f64,
+}
+
+/// A rotary.
+#[derive(Clone, Copy, Debug, PartialEq)]
+pub struct Rotary {
+    /// A, B or C.
+    pub letter: u8,
+    /// What it turns.
+    pub carrier: Carrier,
+    /// The direction that it turns about, not zero.
+    pub axis: [f64; 3],
+    /// A point on that axis, each number at most 100,000 in size.
+    pub pivot: [f64; 3],
+    /// None where it turns without end.
+    pub limits: Option<Limits>,
+}
+
+/// A chain: one or two rotaries and the spindle.
+///
+/// ```
+/// use maztubel::{Carrier, Chain, Limits, Rotary, check_chain};
+///
+/// let table = |letter, axis, limits| Rotary { letter, carrier: Carrier::Table, axis, pivot: [0.0; 3], limits };
+/// let mut chain = Chain {
+///     rotaries: vec![
+///         table(b'A', [1.0, 0.0, 0.0], Some(Limits { min: -120.0, max: 30.0 })),
+///         table(b'C', [0.0, 0.0, 1.0], None),
+///     ],
+///     spindle: [0.0, 0.0, 1.0],
+/// };
+/// check_chain(&chain)?;
+/// assert_eq!(chain.bytes().len(), 176);
+///
+/// chain.rotaries[1].letter = b'A';
+/// assert_eq!(check_chain(&chain).unwrap_err().to_string(), "refused 5: two rotaries have one letter: rotary 1");
+/// # Ok::<(), maztubel::Refusal>(())
+/// ```
+#[derive(Clone, Debug, PartialEq)]
+pub struct Chain {
+    /// Of a table pair the one that stands on the machine first, of a head pair the one next to the machine first.
+    pub rotaries: Vec<Rotary>,
+    /// The spindle's direction, from the tool's tip on.
+    pub spindle: [f64; 3],
+}
+
+impl Chain {
+    /// The chain as the library and a job have it (docs/FORMAT.md). More than 255 rotaries count as 255, which is refused alike.
+    ///
+    /// ```
+    /// let empty = maztubel::Chain { rotaries: vec![], spindle: [0.0; 3] };
+    /// assert_eq!(empty.bytes()[0], 0);
+    /// ```
+    pub fn bytes(&self) -> Vec<u8> {
+        let mut bytes = vec![u8::try_from(self.rotaries.len()).unwrap_or(u8::MAX)];
+        bytes.extend([0; 7]);
+        for rotary in &self.rotaries {
+            rotary.append(&mut bytes);
+        }
+        append_numbers(&mut bytes, &self.spindle);
+        bytes
+    }
+}
+
+impl Rotary {
+    fn append(&self, bytes: &mut Vec<u8>) {
+        bytes.push(self.letter);
+        bytes.push(match self.carrier {
+            Carrier::Table => 0,
+            Carrier::Head => 1,
+        });
+        bytes.push(u8::from(self.limits.is_some()));
+        bytes.extend([0; 5]);
+        append_numbers(bytes, &self.axis);
+        append_numbers(bytes, &self.pivot);
+        let Limits { min, max } = self.limits.unwrap_or(Limits { min: 0.0, max: 0.0 });
+        append_numbers(bytes, &[min, max]);
+    }
+}
+
+pub(crate) fn append_numbers(bytes: &mut Vec<u8>, numbers: &[f64]) {
+    for number in numbers {
+        bytes.extend(number.to_le_bytes());
+    }
+}
+
+/// Whether the chain can be served.
+///
+/// ```
+/// let chain = maztubel::Chain { rotaries: vec![], spindle: [0.0; 3] };
+/// assert_eq!(maztubel::check_chain(&chain).unwrap_err().number(), 3);
+/// ```
+pub fn check_chain(chain: &Chain) -> Result<(), Refusal> {
+    flat::check_chain(&chain.bytes()).served()
+}
+
+/// The tool's pose in the part frame at given joints, its axis a unit vector.
+///
+/// ```
+/// use maztubel::{Carrier, Chain, Joints, Rotary, forward};
+///
+/// let chain = Chain {
+///     rotaries: vec![Rotary {
+///         letter: b'C',
+///         carrier: Carrier::Head,
+///         axis: [0.0, 0.0, 1.0],
+///         pivot: [0.0; 3],
+///         limits: None,
+///     }],
+///     spindle: [0.0, 0.0, 1.0],
+/// };
+/// let joints = Joints { position: [1.0, 2.0, 3.0], angles: [0.0; 2] };
+/// assert_eq!(forward(&chain, &joints, 0.5)?.tip, [1.0, 2.0, 2.5]);
+/// # Ok::<(), maztubel::Refusal>(())
+/// ```
+pub fn forward(chain: &Chain, joints: &Joints, tool_length: f64) -> Result<Pose, Refusal> {
+    let mut pose = Pose::default();
+    flat::forward(
+        &chain.bytes(),
+        flat::numbers(std::slice::from_ref(joints)),
+        tool_length,
+        flat::numbers_mut(std::slice::from_mut(&mut pose)),
+    )
+    .served()?;
+    Ok(pose)
+}

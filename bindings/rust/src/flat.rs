@@ -1,0 +1,690 @@
+//! Every entry of the static library over plain numbers and bytes, safe, as include/maztubel.h has it: a slice for each pointer
+//! with its length, the lent numbers in the answer. Slices of any length may be lent: broken records are 20.
+//!
+//! The one module with unsafe code.
+
+use crate::model::Frame;
+use crate::pose::{Joints, Pose};
+use crate::refusal::Refusal;
+use std::slice;
+
+/// What a call answers.
+#[derive(Clone, Copy, Debug, Default, PartialEq, Eq)]
+#[must_use]
+pub struct Told {
+    /// 0, or the number of a refusal.
+    pub number: u32,
+    /// The rotary, the link, the pose or the offset that goes with the number, else 0.
+    pub at: u64,
+    /// With 24 the rotary's letter, else 0.
+    pub letter: u8,
+    /// How many joint sets `inverse` has, or how many poses were inserted; of the other calls 0.
+    pub count: u64,
+}
+
+impl Told {
+    /// An error where the number is not 0. Whether 16 and 17 are a pose's cannot be told from the number, and is not.
+    ///
+    /// ```
+    /// let mut answer = 0.0;
+    /// assert!(maztubel::flat::sine(0.5, &mut answer).served().is_ok());
+    /// ```
+    pub fn served(self) -> Result<(), Refusal> {
+        match self.number {
+            0 => Ok(()),
+            _ => Err(Refusal::told(self, false)),
+        }
+    }
+}
+
+/// `choose`'s choice by the hint.
+pub const NEAREST: u32 = 0;
+/// `choose`'s choice of the first that is not negative.
+pub const FIRST_POSITIVE: u32 = 1;
+/// `choose`'s choice of the first that is not positive.
+pub const FIRST_NEGATIVE: u32 = 2;
+
+/// `link_world` or `link_in_part`.
+pub type FrameOf = fn(&[u8], &[u8], &[u8], &[f64], &[u8], &mut [f64]) -> Told;
+
+/// A struct of f64 alone, in the order of the library's record.
+///
+/// # Safety
+/// It is `repr(C)`, and every field is an f64 or an array of them.
+pub(crate) unsafe trait Record {}
+
+// SAFETY: each is declared so, beside its fields.
+unsafe impl Record for Pose {}
+unsafe impl Record for Joints {}
+unsafe impl Record for Frame {}
+
+pub(crate) fn numbers<R: Record>(records: &[R]) -> &[f64] {
+    // SAFETY: here and below, the records are nothing but f64 without padding, as many as fill their size, and every bit pattern is
+    // one; the borrow goes over.
+    unsafe { slice::from_raw_parts(records.as_ptr().cast(), count::<R>(records)) }
+}
+
+pub(crate) fn numbers_mut<R: Record>(records: &mut [R]) -> &mut [f64] {
+    let count = count::<R>(records);
+    unsafe { slice::from_raw_parts_mut(records.as_mut_ptr().cast(), count) }
+}
+
+fn count<R>(records: &[R]) -> usize {
+    size_of_val(records) / size_of::<f64>()
+}
+
+// Each is total (its contract has no `requires`): what it is lent has to be there, and nothing else.
+unsafe extern "C" {
+    fn maztubel_sine(x: f64, answer: &mut f64) -> u32;
+    fn maztubel_cosine(x: f64, answer: &mut f64) -> u32;
+    fn maztubel_arctangent(y: f64, x: f64, answer: &mut f64) -> u32;
+    fn maztubel_arccosine(c: f64, answer: &mut f64) -> u32;
+    fn maztubel_sines(
+        xs: *const f64,
+        xs_length: usize,
+        answers: *mut f64,
+        answers_length: usize,
+    ) -> u32;
+    fn maztubel_cosines(
+        xs: *const f64,
+        xs_length: usize,
+        answers: *mut f64,
+        answers_length: usize,
+    ) -> u32;
+    fn maztubel_arctangents(
+        ys: *const f64,
+        ys_length: usize,
+        xs: *const f64,
+        xs_length: usize,
+        answers: *mut f64,
+        answers_length: usize,
+    ) -> u32;
+    fn maztubel_arccosines(
+        cs: *const f64,
+        cs_length: usize,
+        answers: *mut f64,
+        answers_length: usize,
+    ) -> u32;
+    fn maztubel_check_chain(
+        chain: *const u8,
+        chain_length: usize,
+        at: &mut u64,
+        letter: &mut u8,
+    ) -> u32;
+    fn maztubel_forward(
+        chain: *const u8,
+        chain_length: usize,
+        joints: *const f64,
+        joints_length: usize,
+        tool_length: f64,
+        pose: *mut f64,
+        pose_length: usize,
+        at: &mut u64,
+        letter: &mut u8,
+    ) -> u32;
+    fn maztubel_inverse(
+        chain: *const u8,
+        chain_length: usize,
+        pose: *const f64,
+        pose_length: usize,
+        tool_length: f64,
+        hint: *const f64,
+        hint_length: usize,
+        list: *mut f64,
+        list_length: usize,
+        count: &mut u64,
+        at: &mut u64,
+        letter: &mut u8,
+    ) -> u32;
+    fn maztubel_choose(
+        chain: *const u8,
+        chain_length: usize,
+        pose: *const f64,
+        pose_length: usize,
+        tool_length: f64,
+        choice: u32,
+        hint: *const f64,
+        hint_length: usize,
+        joints: *mut f64,
+        joints_length: usize,
+        at: &mut u64,
+        letter: &mut u8,
+    ) -> u32;
+    fn maztubel_check_model(
+        name: *const u8,
+        name_length: usize,
+        chain: *const u8,
+        chain_length: usize,
+        model: *const u8,
+        model_length: usize,
+        at: &mut u64,
+        letter: &mut u8,
+    ) -> u32;
+    fn maztubel_link_world(
+        name: *const u8,
+        name_length: usize,
+        chain: *const u8,
+        chain_length: usize,
+        model: *const u8,
+        model_length: usize,
+        joints: *const f64,
+        joints_length: usize,
+        carrier: *const u8,
+        carrier_length: usize,
+        frame: *mut f64,
+        frame_length: usize,
+        at: &mut u64,
+        letter: &mut u8,
+    ) -> u32;
+    fn maztubel_link_in_part(
+        name: *const u8,
+        name_length: usize,
+        chain: *const u8,
+        chain_length: usize,
+        model: *const u8,
+        model_length: usize,
+        joints: *const f64,
+        joints_length: usize,
+        carrier: *const u8,
+        carrier_length: usize,
+        frame: *mut f64,
+        frame_length: usize,
+        at: &mut u64,
+        letter: &mut u8,
+    ) -> u32;
+    fn maztubel_solve_path(
+        chain: *const u8,
+        chain_length: usize,
+        poses: *const f64,
+        poses_length: usize,
+        start: *const f64,
+        start_length: usize,
+        cone: f64,
+        joints: *mut f64,
+        joints_length: usize,
+        at: &mut u64,
+        letter: &mut u8,
+    ) -> u32;
+    fn maztubel_subdivide_path(
+        chain: *const u8,
+        chain_length: usize,
+        poses: *const f64,
+        poses_length: usize,
+        joints: *const f64,
+        joints_length: usize,
+        chord: f64,
+        axis: f64,
+        out_poses: *mut f64,
+        out_poses_length: usize,
+        out_joints: *mut f64,
+        out_joints_length: usize,
+        inserted: &mut u64,
+        at: &mut u64,
+        letter: &mut u8,
+    ) -> u32;
+    fn maztubel_solve_and_divide(
+        chain: *const u8,
+        chain_length: usize,
+        poses: *const f64,
+        poses_length: usize,
+        start: *const f64,
+        start_length: usize,
+        cone: f64,
+        chord: f64,
+        axis: f64,
+        out_poses: *mut f64,
+        out_poses_length: usize,
+        out_joints: *mut f64,
+        out_joints_length: usize,
+        inserted: &mut u64,
+        at: &mut u64,
+        letter: &mut u8,
+    ) -> u32;
+}
+
+/// The sine of x radians: 17 for x outside -800 to 800.
+///
+/// ```
+/// use maztubel::flat;
+/// let mut answer = 9.0;
+/// assert_eq!(flat::sine(0.0, &mut answer).number, 0);
+/// assert_eq!(answer, 0.0);
+/// ```
+pub fn sine(x: f64, answer: &mut f64) -> Told {
+    // SAFETY: here and below each pointer goes with its own length, and no two of what is lent overlap.
+    let number = unsafe { maztubel_sine(x, answer) };
+    Told {
+        number,
+        ..Told::default()
+    }
+}
+
+/// The cosine of x radians: 17 for x outside -800 to 800.
+///
+/// ```
+/// use maztubel::flat;
+/// let mut answer = 9.0;
+/// assert_eq!(flat::cosine(f64::NAN, &mut answer).number, 17);
+/// assert_eq!(answer, 9.0);
+/// ```
+pub fn cosine(x: f64, answer: &mut f64) -> Told {
+    let number = unsafe { maztubel_cosine(x, answer) };
+    Told {
+        number,
+        ..Told::default()
+    }
+}
+
+/// The angle of the point (x, y): 17 where one is not finite.
+///
+/// ```
+/// use maztubel::flat;
+/// let mut answer = 9.0;
+/// assert_eq!(flat::arctangent(0.0, 1.0, &mut answer).number, 0);
+/// assert_eq!(answer, 0.0);
+/// ```
+pub fn arctangent(y: f64, x: f64, answer: &mut f64) -> Told {
+    let number = unsafe { maztubel_arctangent(y, x, answer) };
+    Told {
+        number,
+        ..Told::default()
+    }
+}
+
+/// The angle from 0 to pi whose cosine is c: 17 for c outside -1 to 1.
+///
+/// ```
+/// use maztubel::flat;
+/// let mut answer = 9.0;
+/// assert_eq!(flat::arccosine(2.0, &mut answer).number, 17);
+/// ```
+pub fn arccosine(c: f64, answer: &mut f64) -> Told {
+    let number = unsafe { maztubel_arccosine(c, answer) };
+    Told {
+        number,
+        ..Told::default()
+    }
+}
+
+/// The sine of each: 20 where the lengths differ, 17. A refusal keeps the answers.
+///
+/// ```
+/// use maztubel::flat;
+/// assert_eq!(flat::sines(&[0.0; 3], &mut [9.0; 2]).number, 20);
+/// ```
+pub fn sines(xs: &[f64], answers: &mut [f64]) -> Told {
+    let number =
+        unsafe { maztubel_sines(xs.as_ptr(), xs.len(), answers.as_mut_ptr(), answers.len()) };
+    Told {
+        number,
+        ..Told::default()
+    }
+}
+
+/// The cosine of each: 20 where the lengths differ, 17. A refusal keeps the answers.
+///
+/// ```
+/// use maztubel::flat;
+/// assert_eq!(flat::cosines(&[], &mut []).number, 0);
+/// ```
+pub fn cosines(xs: &[f64], answers: &mut [f64]) -> Told {
+    let number =
+        unsafe { maztubel_cosines(xs.as_ptr(), xs.len(), answers.as_mut_ptr(), answers.len()) };
+    Told {
+        number,
+        ..Told::default()
+    }
+}
+
+/// The angle of each point: 20 where the lengths differ, 17. A refusal keeps the answers.
+///
+/// ```
+/// use maztubel::flat;
+/// assert_eq!(flat::arctangents(&[0.0], &[0.0, 0.0], &mut [9.0]).number, 20);
+/// ```
+pub fn arctangents(ys: &[f64], xs: &[f64], answers: &mut [f64]) -> Told {
+    let number = unsafe {
+        maztubel_arctangents(
+            ys.as_ptr(),
+            ys.len(),
+            xs.as_ptr(),
+            xs.len(),
+            answers.as_mut_ptr(),
+            answers.len(),
+        )
+    };
+    Told {
+        number,
+        ..Told::default()
+    }
+}
+
+/// The angle of each cosine: 20 where the lengths differ, 17. A refusal keeps the answers.
+///
+/// ```
+/// use maztubel::flat;
+/// assert_eq!(flat::arccosines(&[2.0], &mut [9.0]).number, 17);
+/// ```
+pub fn arccosines(cs: &[f64], answers: &mut [f64]) -> Told {
+    let number =
+        unsafe { maztubel_arccosines(cs.as_ptr(), cs.len(), answers.as_mut_ptr(), answers.len()) };
+    Told {
+        number,
+        ..Told::default()
+    }
+}
+
+/// Whether the chain can be served.
+///
+/// ```
+/// use maztubel::flat;
+/// assert_eq!(flat::check_chain(&[]).number, 29);
+/// assert_eq!(flat::check_chain(&[3]).number, 3);
+/// ```
+pub fn check_chain(chain: &[u8]) -> Told {
+    let mut told = Told::default();
+    told.number = unsafe {
+        maztubel_check_chain(chain.as_ptr(), chain.len(), &mut told.at, &mut told.letter)
+    };
+    told
+}
+
+/// The pose, 6 numbers, at joints, 5 numbers. A refusal keeps it.
+///
+/// ```
+/// use maztubel::flat;
+/// assert_eq!(flat::forward(&[], &[0.0; 4], 0.0, &mut [9.0; 6]).number, 20);
+/// ```
+pub fn forward(chain: &[u8], joints: &[f64], tool_length: f64, pose: &mut [f64]) -> Told {
+    let mut told = Told::default();
+    told.number = unsafe {
+        maztubel_forward(
+            chain.as_ptr(),
+            chain.len(),
+            joints.as_ptr(),
+            joints.len(),
+            tool_length,
+            pose.as_mut_ptr(),
+            pose.len(),
+            &mut told.at,
+            &mut told.letter,
+        )
+    };
+    told
+}
+
+/// Every joint set that reaches a pose, 250 numbers for 50 sets of 5, and their count. 21 and 22 leave +0.0, every other refusal
+/// keeps the list.
+///
+/// ```
+/// use maztubel::flat;
+/// assert_eq!(flat::inverse(&[], &[0.0; 6], 0.0, &[0.0; 2], &mut [9.0; 250]).number, 29);
+/// ```
+pub fn inverse(
+    chain: &[u8],
+    pose: &[f64],
+    tool_length: f64,
+    hint: &[f64],
+    list: &mut [f64],
+) -> Told {
+    let mut told = Told::default();
+    told.number = unsafe {
+        maztubel_inverse(
+            chain.as_ptr(),
+            chain.len(),
+            pose.as_ptr(),
+            pose.len(),
+            tool_length,
+            hint.as_ptr(),
+            hint.len(),
+            list.as_mut_ptr(),
+            list.len(),
+            &mut told.count,
+            &mut told.at,
+            &mut told.letter,
+        )
+    };
+    told
+}
+
+/// One of them, 5 numbers, by [`NEAREST`], [`FIRST_POSITIVE`] or [`FIRST_NEGATIVE`]. 21 and 22 leave +0.0, every other refusal
+/// keeps the joints.
+///
+/// ```
+/// use maztubel::flat;
+/// assert_eq!(flat::choose(&[], &[0.0; 6], 0.0, 3, &[0.0; 2], &mut [9.0; 5]).number, 20);
+/// ```
+pub fn choose(
+    chain: &[u8],
+    pose: &[f64],
+    tool_length: f64,
+    choice: u32,
+    hint: &[f64],
+    joints: &mut [f64],
+) -> Told {
+    let mut told = Told::default();
+    told.number = unsafe {
+        maztubel_choose(
+            chain.as_ptr(),
+            chain.len(),
+            pose.as_ptr(),
+            pose.len(),
+            tool_length,
+            choice,
+            hint.as_ptr(),
+            hint.len(),
+            joints.as_mut_ptr(),
+            joints.len(),
+            &mut told.at,
+            &mut told.letter,
+        )
+    };
+    told
+}
+
+/// Whether a chain with its name and its model can be served.
+///
+/// ```
+/// use maztubel::flat;
+/// assert_eq!(flat::check_model(b"mill", &[0], &[]).number, 3);
+/// ```
+pub fn check_model(name: &[u8], chain: &[u8], model: &[u8]) -> Told {
+    let mut told = Told::default();
+    told.number = unsafe {
+        maztubel_check_model(
+            name.as_ptr(),
+            name.len(),
+            chain.as_ptr(),
+            chain.len(),
+            model.as_ptr(),
+            model.len(),
+            &mut told.at,
+            &mut told.letter,
+        )
+    };
+    told
+}
+
+/// The frame, 12 numbers, of what a carrier names, in the machine. A refusal keeps it.
+///
+/// ```
+/// use maztubel::flat;
+/// assert_eq!(flat::link_world(b"mill", &[0], &[], &[0.0; 5], b"base", &mut [9.0; 12]).number, 3);
+/// ```
+pub fn link_world(
+    name: &[u8],
+    chain: &[u8],
+    model: &[u8],
+    joints: &[f64],
+    carrier: &[u8],
+    frame: &mut [f64],
+) -> Told {
+    let mut told = Told::default();
+    told.number = unsafe {
+        maztubel_link_world(
+            name.as_ptr(),
+            name.len(),
+            chain.as_ptr(),
+            chain.len(),
+            model.as_ptr(),
+            model.len(),
+            joints.as_ptr(),
+            joints.len(),
+            carrier.as_ptr(),
+            carrier.len(),
+            frame.as_mut_ptr(),
+            frame.len(),
+            &mut told.at,
+            &mut told.letter,
+        )
+    };
+    told
+}
+
+/// The frame, 12 numbers, of what a carrier names, seen from the part. A refusal keeps it.
+///
+/// ```
+/// use maztubel::flat;
+/// assert_eq!(flat::link_in_part(b"mill", &[0], &[], &[0.0; 5], b"base", &mut [9.0; 11]).number, 20);
+/// ```
+pub fn link_in_part(
+    name: &[u8],
+    chain: &[u8],
+    model: &[u8],
+    joints: &[f64],
+    carrier: &[u8],
+    frame: &mut [f64],
+) -> Told {
+    let mut told = Told::default();
+    told.number = unsafe {
+        maztubel_link_in_part(
+            name.as_ptr(),
+            name.len(),
+            chain.as_ptr(),
+            chain.len(),
+            model.as_ptr(),
+            model.len(),
+            joints.as_ptr(),
+            joints.len(),
+            carrier.as_ptr(),
+            carrier.len(),
+            frame.as_mut_ptr(),
+            frame.len(),
+            &mut told.at,
+            &mut told.letter,
+        )
+    };
+    told
+}
+
+/// The joints of every pose; the start is 5 numbers or none. A refusal at a pose leaves +0.0, every other one keeps the joints.
+///
+/// ```
+/// use maztubel::flat;
+/// assert_eq!(flat::solve_path(&[0], &[0.0; 6], &[], 1.0, &mut [9.0; 7]).number, 20);
+/// ```
+pub fn solve_path(
+    chain: &[u8],
+    poses: &[f64],
+    start: &[f64],
+    cone: f64,
+    joints: &mut [f64],
+) -> Told {
+    let mut told = Told::default();
+    told.number = unsafe {
+        maztubel_solve_path(
+            chain.as_ptr(),
+            chain.len(),
+            poses.as_ptr(),
+            poses.len(),
+            start.as_ptr(),
+            start.len(),
+            cone,
+            joints.as_mut_ptr(),
+            joints.len(),
+            &mut told.at,
+            &mut told.letter,
+        )
+    };
+    told
+}
+
+/// Given poses with their joints, divided, and how many were inserted. 27 and 28 leave both outputs +0.0, every other refusal keeps
+/// them.
+///
+/// ```
+/// use maztubel::flat;
+/// assert_eq!(flat::subdivide_path(&[0], &[], &[], 1.0, 0.0, &mut [], &mut []).number, 19);
+/// ```
+pub fn subdivide_path(
+    chain: &[u8],
+    poses: &[f64],
+    joints: &[f64],
+    chord: f64,
+    axis: f64,
+    out_poses: &mut [f64],
+    out_joints: &mut [f64],
+) -> Told {
+    let mut told = Told::default();
+    told.number = unsafe {
+        maztubel_subdivide_path(
+            chain.as_ptr(),
+            chain.len(),
+            poses.as_ptr(),
+            poses.len(),
+            joints.as_ptr(),
+            joints.len(),
+            chord,
+            axis,
+            out_poses.as_mut_ptr(),
+            out_poses.len(),
+            out_joints.as_mut_ptr(),
+            out_joints.len(),
+            &mut told.count,
+            &mut told.at,
+            &mut told.letter,
+        )
+    };
+    told
+}
+
+/// A path solved and then divided, and how many poses were inserted. What `solve_path` refuses and keeps its joints with keeps both
+/// outputs, every other refusal leaves them +0.0.
+///
+/// ```
+/// use maztubel::flat;
+/// assert_eq!(flat::solve_and_divide(&[0], &[], &[0.0], 1.0, 1.0, 1.0, &mut [], &mut []).number, 20);
+/// ```
+pub fn solve_and_divide(
+    chain: &[u8],
+    poses: &[f64],
+    start: &[f64],
+    cone: f64,
+    chord: f64,
+    axis: f64,
+    out_poses: &mut [f64],
+    out_joints: &mut [f64],
+) -> Told {
+    let mut told = Told::default();
+    told.number = unsafe {
+        maztubel_solve_and_divide(
+            chain.as_ptr(),
+            chain.len(),
+            poses.as_ptr(),
+            poses.len(),
+            start.as_ptr(),
+            start.len(),
+            cone,
+            chord,
+            axis,
+            out_poses.as_mut_ptr(),
+            out_poses.len(),
+            out_joints.as_mut_ptr(),
+            out_joints.len(),
+            &mut told.count,
+            &mut told.at,
+            &mut told.letter,
+        )
+    };
+    told
+}
