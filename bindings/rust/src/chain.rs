@@ -81,9 +81,49 @@ impl Chain {
         append_numbers(&mut bytes, &self.spindle);
         bytes
     }
+
+    /// The chain that has these bytes, if they are a chain's: the sibling of [`Chain::bytes`]. No number is judged, nor a letter.
+    ///
+    /// ```
+    /// use maztubel::{Carrier, Chain, Rotary};
+    ///
+    /// let rotary = Rotary { letter: b'C', carrier: Carrier::Head, axis: [0.0, 0.0, 1.0], pivot: [0.0; 3], limits: None };
+    /// let chain = Chain { rotaries: vec![rotary], spindle: [0.0, 0.0, 1.0] };
+    /// assert_eq!(Chain::from_bytes(&chain.bytes()), Ok(chain));
+    /// assert_eq!(Chain::from_bytes(&[1; 104]).unwrap_err().to_string(), "refused 29: the bytes are malformed: offset 1");
+    /// ```
+    pub fn from_bytes(bytes: &[u8]) -> Result<Chain, Refusal> {
+        let told = flat::check_chain(bytes);
+        match told.number {
+            3 | 29 => Err(Refusal::told(told, false)),
+            _ => {
+                let (rotaries, spindle) = bytes[8..].split_at(bytes.len() - 32);
+                Ok(Chain {
+                    rotaries: rotaries.chunks_exact(72).map(Rotary::within).collect(),
+                    spindle: vector(spindle, 0),
+                })
+            }
+        }
+    }
 }
 
 impl Rotary {
+    /// Of 72 bytes that are a rotary's.
+    fn within(bytes: &[u8]) -> Rotary {
+        let (min, max) = (number(bytes, 56), number(bytes, 64));
+        Rotary {
+            letter: bytes[0],
+            carrier: if bytes[1] == 0 {
+                Carrier::Table
+            } else {
+                Carrier::Head
+            },
+            axis: vector(bytes, 8),
+            pivot: vector(bytes, 32),
+            limits: (bytes[2] == 1).then_some(Limits { min, max }),
+        }
+    }
+
     fn append(&self, bytes: &mut Vec<u8>) {
         bytes.push(self.letter);
         bytes.push(match self.carrier {
@@ -97,6 +137,14 @@ impl Rotary {
         let Limits { min, max } = self.limits.unwrap_or(Limits { min: 0.0, max: 0.0 });
         append_numbers(bytes, &[min, max]);
     }
+}
+
+fn number(bytes: &[u8], at: usize) -> f64 {
+    f64::from_le_bytes(bytes[at..at + 8].try_into().expect("eight bytes"))
+}
+
+fn vector(bytes: &[u8], at: usize) -> [f64; 3] {
+    [0, 8, 16].map(|i| number(bytes, at + i))
 }
 
 pub(crate) fn append_numbers(bytes: &mut Vec<u8>, numbers: &[f64]) {
