@@ -72,7 +72,7 @@ enum {
     MAZTUBEL_ANGLE_TOO_LARGE = 26,
     /* an insertion would be the 10,001st */
     MAZTUBEL_TOO_MANY_INSERTIONS = 27,
-    /* there is no space for the next pose */
+    /* there is no space for the answer, or for the next pose */
     MAZTUBEL_NO_SPACE = 28,
     /* the bytes of a job or a model are malformed */
     MAZTUBEL_MALFORMED = 29
@@ -222,6 +222,31 @@ uint32_t maztubel_solve_and_divide(const uint8_t *chain, size_t chain_length, co
                                    const double *start, size_t start_length, double cone, double chord, double axis,
                                    double *out_poses, size_t out_poses_length, double *out_joints, size_t out_joints_length,
                                    uint64_t *inserted, uint64_t *at, uint8_t *letter);
+
+/* ---- jobs
+ *
+ * A job is bytes, all numbers little-endian, 40 to 65,536 of them: a chain, as in maztubel_check_chain, and poses of 48 bytes, tip and
+ * axis as 3 doubles each, wherever they stand; last a trailer of 40 bytes: u32 offset of the chain, u32 offset of the poses, u32
+ * count of the poses, u32 zero, cone, chord tolerance and axis tolerance as doubles. The parts lie before the trailer and apart; other
+ * bytes are ignored. The reader judges bytes alone: a chain or a number that no call serves is read. */
+
+/* What the trailer says; the chain is the 104 or 176 bytes from *chain_at on, by its count of rotaries. 29 with *at the offset of the
+ * first bad field, 0 for the length; 3 for a count of rotaries other than 1 and 2; 4 for a letter other than A, B and C, with *at the
+ * rotary's index. Else *at is 0. A refusal keeps every lent number but *at. */
+uint32_t maztubel_read_job(const uint8_t *job, size_t job_length, uint64_t *chain_at, uint64_t *poses_at, uint64_t *count,
+                           double *cone, double *chord, double *axis, uint64_t *at);
+
+/* The poses of a job, 6 doubles each, then +0.0 to the end. 20 for a length that is no multiple of 6, then the numbers of
+ * maztubel_read_job, then 28 with *at 0 where there are more poses than space: with these the lent poses stay as they were. At most
+ * 1,362 poses fit in a job. */
+uint32_t maztubel_job_poses(const uint8_t *job, size_t job_length, double *poses, size_t poses_length, uint64_t *at);
+
+/* The cable number of the rotary with that index on a path of joint sets: the largest whole k with 360 times k at most the size of
+ * some of its angles; 0 on an empty path and for a rotary that the chain lacks. 20 for a length that is no multiple of 5, 29, 3 to 9,
+ * 16 for a joint that is not finite, 17 for a position beyond 10,000,000, an angle beyond 36,000 or a pivot beyond 100,000. A refusal
+ * keeps the number. *at and *letter are those of a chain's calls. */
+uint32_t maztubel_cable_number(const uint8_t *chain, size_t chain_length, const double *joints, size_t joints_length,
+                               uint64_t rotary, uint64_t *number, uint64_t *at, uint8_t *letter);
 
 #ifdef __cplusplus
 }

@@ -5,5 +5,6 @@ pub mod LinkEntries
 pub mod InverseEntries
 pub mod PathEntries
 pub mod DivideEntries
+pub mod JobEntries
 pub mod Steps
 pub mod Examples

@@ -4,10 +4,11 @@
 // Sine, cosine, arctangent and arccosine, of one argument and of slices. A slice form tests every argument before it writes the
 // first answer, so that a refusal leaves the slice as it was. The entries of a chain stand in chain_entries, those of the
 // inverse map in inverse_entries, those of a model in link_entries, that of a path in
-// path_entries, those that divide in divide_entries.
+// path_entries, those that divide in divide_entries, those of a job in job_entries.
 mod chain_entries;
 mod divide_entries;
 mod inverse_entries;
+mod job_entries;
 mod lent;
 mod link_entries;
 mod path_entries;
