@@ -90,7 +90,7 @@ impl Zigzag {
         for i in 0..wide {
             joints.extend(if i % 2 == 0 { far } else { near });
         }
-        let [from, to] = if wide % 2 == 0 {
+        let [from, to] = if wide.is_multiple_of(2) {
             [near, far]
         } else {
             [far, near]
