@@ -15,7 +15,8 @@ use crate::solved::MOST_POSES;
 use crate::ways::{MACHINES, kind};
 use std::process::ExitCode;
 
-/// A difference is reduced by at most so many tries.
+/// A difference is reduced where few poses are inserted, by at most so many tries.
+const FEW: u64 = 1000;
 const TRIES: usize = 200;
 
 /// One of so many divisions is looked into, by its neighbours and by what libm gives.
@@ -325,7 +326,8 @@ fn answered(answer: Answer) -> String {
 fn example(division: &Division, rooms: Rooms, told: &Told) -> String {
     let must = |division: &Division, rooms| telling(expected(division).with(rooms), rooms);
     let differs = |division: &Division, rooms| ask(division, rooms) != must(division, rooms);
-    let (division, rooms) = match differs(division, rooms) {
+    let few = must(division, rooms).inserted[1] <= FEW;
+    let (division, rooms) = match few && differs(division, rooms) {
         true => reduced(division, rooms, differs),
         false => (division.clone(), rooms),
     };
