@@ -228,9 +228,6 @@ impl Drawn {
         }
         let tolerances = self.tolerances(&joints, most, random);
         let mut poses = self.path.poses;
-        if joints.len() / JOINTS != poses.len() / POSE && random.below(8) > 0 {
-            poses.truncate(joints.len() / JOINTS * POSE);
-        }
         if random.below(4) == 0 {
             strange_axes(&mut poses, random);
         }
@@ -242,36 +239,42 @@ impl Drawn {
         }
     }
 
-    /// Most such that no more poses are inserted than `most`, some met exactly.
+    /// Mostly such that no more poses are inserted than `most`.
     fn tolerances(&self, joints: &[f64], most: usize, random: &mut Random) -> [f64; 2] {
         let halvings = Halvings::new(Lean::new(&self.chain), &self.path.poses, joints);
-        let largest = halvings.largest_gaps();
-        let part = |random: &mut Random| 10f64.powf(-within(2.5, random).abs());
-        let mut tolerances = match random.below(8) {
-            0 => [
-                10f64.powf(-3.0 + within(2.0, random)),
-                10f64.powf(-1.0 + within(1.5, random)),
-            ],
-            2 => random.one_of(&[[f64::MAX, 0.5], [0.1, f64::MAX], [f64::from_bits(1); 2]]),
-            3 | 4 => self.gaps(joints, random),
-            _ => largest.map(|gap| gap * part(random)),
-        };
-        let least = if random.below(512) > 0 {
-            ROUNDINGS
-        } else {
-            0.0
-        };
-        tolerances = match random.below(8) {
-            0 => [1e-13, 1.0],
-            _ => tolerances.map(|x| if x > 0.0 { x.max(least) } else { 0.01 }),
-        };
+        let mut tolerances = self.any_tolerances(&halvings, joints, random);
         for _ in 0..30 {
             if halvings.inserted(tolerances, most).is_some() {
                 break;
             }
-            tolerances = tolerances.map(|x| (x * 16.0).max(1e-9));
+            tolerances = tolerances.map(|x| (x * 16.0).max(ROUNDINGS));
         }
         tolerances
+    }
+
+    /// Parts of the largest gaps, gaps that are met exactly, and others.
+    fn any_tolerances(&self, halvings: &Halvings, joints: &[f64], random: &mut Random) -> [f64; 2] {
+        let mut power = |from: f64, to: f64| {
+            let half = (to - from) / 2.0;
+            10f64.powf(from + half + within(half, random))
+        };
+        let usual = [power(-5.0, -1.0), power(-2.5, 0.5)];
+        let part = [power(-2.5, 0.0), power(-2.5, 0.0)];
+        let tolerances = match random.below(9) {
+            0 => usual,
+            1 => random.one_of(&[[f64::MAX, 0.5], [0.1, f64::MAX], [f64::from_bits(1); 2]]),
+            2 => return [1e-13, 1.0],
+            3 | 4 => self.gaps(joints, random),
+            _ => {
+                let [tip, axis] = halvings.largest_gaps();
+                [part[0] * tip, part[1] * axis]
+            }
+        };
+        let least = match random.below(512) {
+            0 => 0.0,
+            _ => ROUNDINGS,
+        };
+        tolerances.map(|x| if x > 0.0 { x.max(least) } else { 0.01 })
     }
 
     /// Those of two given neighbours to the last bit, or a place less.
@@ -368,7 +371,7 @@ pub fn spaces(verdict: &Verdict, random: &mut Random) -> Vec<Rooms> {
     if random.below(4) == 0 {
         spaces.push(broken(rooms(enough + few, enough), random));
     }
-    if inserted == MOST_INSERTED {
+    if inserted + 1 >= MOST_INSERTED {
         let more = [enough - 1, enough + 7, given.saturating_sub(1), *given, 0];
         spaces.extend(more.map(|space| rooms(space, space)));
     }

@@ -15,6 +15,10 @@ use crate::solved::MOST_POSES;
 use crate::ways::{MACHINES, kind};
 use std::process::ExitCode;
 
+/// A difference is reduced where few poses are inserted, by at most so many tries.
+const FEW: u64 = 1000;
+const TRIES: usize = 200;
+
 /// One of so many divisions is looked into, by its neighbours and by what libm gives.
 const LOOKED_INTO: u64 = 4;
 
@@ -322,7 +326,8 @@ fn answered(answer: Answer) -> String {
 fn example(division: &Division, rooms: Rooms, told: &Told) -> String {
     let must = |division: &Division, rooms| telling(expected(division).with(rooms), rooms);
     let differs = |division: &Division, rooms| ask(division, rooms) != must(division, rooms);
-    let (division, rooms) = match differs(division, rooms) {
+    let few = must(division, rooms).inserted[1] <= FEW;
+    let (division, rooms) = match few && differs(division, rooms) {
         true => reduced(division, rooms, differs),
         false => (division.clone(), rooms),
     };
@@ -355,7 +360,7 @@ fn first_differences(told: &Told, must: &Told) -> String {
     words
 }
 
-/// The same difference on fewer poses: as many are left out as can be, and as much space.
+/// The same difference on fewer poses: as many are left out as can be with some tries, and as much space.
 fn reduced(
     division: &Division,
     rooms: Rooms,
@@ -363,13 +368,16 @@ fn reduced(
 ) -> (Division, Rooms) {
     let (mut division, mut rooms) = (division.clone(), rooms);
     let mut step = division.given();
-    while step > 0 {
+    let mut tries = 0;
+    while step > 0 && tries < TRIES {
         let count = division.given();
-        let firsts = (0..count)
-            .step_by(step)
-            .map(|first| (first, (first + step).min(count)));
-        let less = firsts.map(|(first, end)| without(&division, rooms, first, end));
-        match less.into_iter().find(|(less, rooms)| differs(less, *rooms)) {
+        let mut firsts = (0..count).step_by(step);
+        let less = firsts.find_map(|first| {
+            tries += 1;
+            let less = without(&division, rooms, first, (first + step).min(count));
+            (tries <= TRIES && differs(&less.0, less.1)).then_some(less)
+        });
+        match less {
             Some(less) => (division, rooms) = less,
             None => step /= 2,
         }

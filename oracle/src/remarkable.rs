@@ -162,13 +162,23 @@ fn of_length(count: usize, random: &mut Random) -> [Division; 2] {
     [both, alone]
 }
 
-/// The loosest of a row under which thousands are inserted.
+/// Under which some are inserted, by bisection.
 fn tolerances(halvings: &Halvings) -> [f64; 2] {
-    let mut tolerances = halvings.largest_gaps();
-    while halvings.inserted(tolerances, SOME).is_some() {
-        tolerances = tolerances.map(|x| 0.8 * x);
+    let largest = halvings.largest_gaps();
+    let [mut tight, mut loose] = [0.0, 1.0];
+    for _ in 0..40 {
+        let part = 0.5 * (tight + loose);
+        match halvings.inserted(largest.map(|gap| part * gap), 2 * SOME) {
+            None => tight = part,
+            Some(inserted) => {
+                loose = part;
+                if inserted >= SOME / 2 {
+                    break;
+                }
+            }
+        }
     }
-    tolerances
+    largest.map(|gap| loose * gap)
 }
 
 #[cfg(test)]

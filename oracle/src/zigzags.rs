@@ -15,6 +15,9 @@ use crate::walks::poses_of;
 const TOLERANCES: [f64; 2] = [0.01, 0.05];
 const CONE: f64 = 1.0;
 
+/// Of so many machines one has a path that is wanted.
+const DRAWN: usize = 20;
+
 /// Two joint sets of a machine, and how far a narrow swing goes from the first to the second.
 struct Zigzag {
     chain: Chain,
@@ -25,12 +28,8 @@ struct Zigzag {
 
 /// A path that needs `count` insertions, at most one more than may be; solved in the same call, or given its joints.
 pub fn needing(count: usize, solved: bool, random: &mut Random) -> Division {
-    loop {
-        let zigzag = Zigzag::drawn(solved, random);
-        if let Some(division) = zigzag.and_then(|zigzag| zigzag.needing(count)) {
-            return division;
-        }
-    }
+    let mut drawn = (0..DRAWN).filter_map(|_| Zigzag::drawn(solved, random)?.needing(count));
+    drawn.next().expect("a path of so many insertions")
 }
 
 impl Zigzag {
@@ -90,7 +89,7 @@ impl Zigzag {
         for i in 0..wide {
             joints.extend(if i % 2 == 0 { far } else { near });
         }
-        let [from, to] = if wide % 2 == 0 {
+        let [from, to] = if wide.is_multiple_of(2) {
             [near, far]
         } else {
             [far, near]
