@@ -1,7 +1,7 @@
 -- A job's poses in a room for 1,362 of them, and its path.
-use Prim.Native.Nat.{ℕ, _+_, _*_, _/_, _%_, _≤_}
+use Prim.Native.Nat.{ℕ, _+_, _*_, _/_, _≤_}
 use native.Mathlib.Omega.{arith}
-use mathlib.Core.Path.{_≡_, refl, sym, ap, _∙_}
+use mathlib.Core.Path.{_≡_, _∙_}
 use mathlib.Core.Logic.{_⊎_, inl, inr}
 use mathlib.Core.List.{List}
 use borrow.Author.Tests.{le-leb}
@@ -11,19 +11,17 @@ use lib.Seq.{take-all}
 use Rattle.lists.specs.Padding.{padded}
 use Rattle.lists.proofs.Padding.{take-padded}
 use Rattle.float.specs.Helpers.{nought}
-use Rattle.chain.specs.Check.{demand}
 use Rattle.chain.specs.ChainBytes.{chainLength}
 use Rattle.chain.proofs.Bytes.{at-least-one}
 use Rattle.path.specs.declared.Start.the-variants.{AtZero}
 use Rattle.divide.specs.declared.Division.{Division}
 use Rattle.divide.specs.Subdividing.{divisionIn, jointsLeft, solveAndDivide}
 use Rattle.job.specs.declared.Job.{Job}
-use Rattle.job.specs.declared.JobRead.the-variants as JobRead
-use Rattle.job.specs.JobBytes.{readJob}
 use Rattle.job.specs.JobPoses.{posesOf, room, posesCheck, jobPoses}
 use Rattle.job.proofs.JobWithin.{Within, within, parts, rotaries}
 use Rattle.job.proofs.Copying.{length-numbers}
-use Rattle.post.specs.Posting.{IsJob, pathOf}
+use Rattle.post.specs.Posting.{pathOf}
+use Rattle.post.specs.Steps.{IsJob}
 use Rattle.post.proofs.Paths.{Sized, sized}
 
 module _ (bytes : List ℕ) (j : Job) (is : IsJob bytes j) where

@@ -1,9 +1,9 @@
 -- The path of a job: how many joint sets it has, and that what the joints hold at their front is its numbers.
 use Prim.Native.Nat.{ℕ, _+_, _*_, _/_, _≤_}
 use native.Mathlib.Omega.{arith}
-use mathlib.Core.Path.{_≡_, refl, sym, ap, _∙_}
+use mathlib.Core.Path.{_≡_, refl, _∙_}
 use mathlib.Core.Bool.{Bool, true, false, cond}
-use mathlib.Core.List.{List, [], map}
+use mathlib.Core.List.{List, map}
 use borrow.Author.Tests.{leb-true}
 use lib.Dec.{leb}
 use lib.Ieee.{Float}
@@ -28,7 +28,6 @@ use Rattle.halving.proofs.Ends.{result}
 use Rattle.divide.specs.declared.Division.{Division}
 use Rattle.divide.specs.declared.Item.{Item}
 use Rattle.divide.specs.declared.Tolerances.{Tolerances}
-use Rattle.divide.specs.Items.{jointsFrom}
 use Rattle.divide.specs.Checking.{divisionCheck}
 use Rattle.divide.specs.Testing.{midpoint, divides}
 use Rattle.divide.specs.Turning.{most}
@@ -36,7 +35,8 @@ use Rattle.divide.specs.Dividing.{division}
 use Rattle.divide.specs.Subdividing.{DivisionAnswer, Kept, AtPose, Cleared, Halved, divisionIn, jointsLeft, spaceIn, given, divisionWithin, unlessKept, subdividePath, clearing, afterSolving, solvedPath, solveAndDivide}
 use Rattle.divide.proofs.Stored.{joints-codec, items-length}
 use Rattle.job.specs.Cable.{jointSets}
-use Rattle.post.specs.Posting.{jointsOf, pathText, pathLength, conclusion}
+use Rattle.post.specs.Posting.{jointsOf, pathText}
+use Rattle.post.specs.Steps.{conclusion, pathLength}
 
 -- ---- how many joint sets there are: the given ones and the inserted ones, at most as many as there is space for
 abbrev SizedAnswer : ℕ → ℕ → Answer Item → Type 0

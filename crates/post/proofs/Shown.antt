@@ -1,6 +1,5 @@
 -- What a text leaves at the front of its buffer, and that a path of 700 poses has room in 65,536 bytes.
 use Prim.Native.Nat.{ℕ, zero, suc, _+_, _*_, _/_, _^_, _≤_, _<_}
-use native.Mathlib.Numerals.{add-one}
 use native.Mathlib.Omega.{arith}
 use mathlib.Core.Path.{_≡_, refl, sym, ap, _∙_}
 use mathlib.Core.Bool.{Bool, true, false}
@@ -24,7 +23,7 @@ use Rattle.job.specs.Telling.{linesLength, headLength, pathText, refusalText, p
 use Rattle.job.proofs.Ended as Row
 use Rattle.job.proofs.Written.{width-small, width-more, width-word, length-labelled, length-paired}
 use Rattle.job.proofs.Texts.{length-path, length-sets}
-use Rattle.post.specs.Posting.{endOf}
+use Rattle.post.specs.Steps.{endOf}
 
 -- ---- the front of a buffer
 take-behind : (l : List ℕ) (at : ℕ) (t : List ℕ) → at + length t ≤ length l → take (at + length t) (written l at t) ≡ take at l ++ t

@@ -1,6 +1,5 @@
 -- What the program writes for the bytes that it reads, as one text: `post`. Space is for 700 poses, and the path is solved from angles zero.
-use Prim.Native.Nat.{ℕ, _+_, _*_, _≤_}
-use mathlib.Core.Path.{_≡_}
+use Prim.Native.Nat.{ℕ}
 use mathlib.Core.List.{List, [], map}
 use lib.Ieee.{Float}
 use Rattle.lists.specs.Rows.{flat}
@@ -9,7 +8,7 @@ use Rattle.chain.specs.declared.Joints.{Joints}
 use Rattle.chain.specs.declared.Kinematics.{Kinematics}
 use Rattle.path.specs.declared.Start.the-variants.{AtZero}
 use Rattle.path.specs.Solving.{jointNumbers}
-use Rattle.halving.specs.Halving.{Answer, items}
+use Rattle.halving.specs.Halving.{items}
 use Rattle.divide.specs.declared.Divided.{Divided}
 use Rattle.divide.specs.declared.Divided.the-variants as Divided
 use Rattle.divide.specs.declared.Division.{Division}
@@ -23,11 +22,9 @@ use Rattle.job.specs.declared.Ended.the-variants as Ended
 use Rattle.job.specs.declared.Job.{Job}
 use Rattle.job.specs.declared.JobRead.{JobRead}
 use Rattle.job.specs.declared.JobRead.the-variants as JobRead
-use Rattle.job.specs.declared.Told.{Told}
-use Rattle.job.specs.declared.Told.the-variants as Told
 use Rattle.job.specs.JobBytes.{readJob}
 use Rattle.job.specs.JobPoses.{posesOf}
-use Rattle.job.specs.Cable.{jointSets, cableNumber}
+use Rattle.job.specs.Cable.{cableNumber}
 use Rattle.job.specs.Telling.{textOf}
 
 -- ---- how a job ended
@@ -72,31 +69,3 @@ postRead bytes (JobRead.Refused r) = textOf (Ended.Refused r) []
 
 unfoldable pub post : List ℕ → List ℕ
 post bytes = postRead bytes (readJob 72 bytes)
-
--- ---- words of inner functions' contracts
--- the same text by the numbers of a path
-abbrev pub conclusion : Kinematics → Division → List Float → List ℕ
-conclusion k said path = textOf (endedBy k said path) (jointSets path)
-
-pub record PathRooms (poses divided joints : ℕ) : Type 0 where
-  pub for-poses : poses ≡ 8172
-  pub for-divided : divided ≡ 4200
-  pub for-joints : joints ≡ 3500
-
-pub record Rooms (poses divided joints text : ℕ) : Type 0 where
-  pub for-path : PathRooms poses divided joints
-  pub for-text : 65536 ≤ text
-
-pub record IsJob (bytes : List ℕ) (j : Job) : Type 0 where
-  pub read : readJob 72 bytes ≡ JobRead.Job j
-
-abbrev pub pathLength : ℕ → Division → ℕ
-pathLength given (Division.Refused r) = 0
-pathLength given (Division.AtPose r) = 0
-pathLength given (Division.Ended (Divided.Done n)) = given + n
-pathLength given (Division.Ended (Divided.TooMany n)) = 0
-pathLength given (Division.Ended (Divided.NoSpace n)) = 0
-
-abbrev pub endOf : Told → ℕ
-endOf (Told.Bytes n) = n
-endOf (Told.Refused r) = 0

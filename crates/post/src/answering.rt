@@ -6,6 +6,7 @@ ghost use Rattle.divide.specs.Subdividing.{divisionIn, jointsLeft};
 ghost use Rattle.job.specs.Cable.{jointSets};
 ghost use Rattle.job.specs.Telling.{textOf};
 ghost use Rattle.post.specs.Posting as S;
+ghost use Rattle.post.specs.Steps as Steps;
 use chain::Kinematics;
 use divide::Divided;
 use divide::Division;
@@ -27,7 +28,7 @@ pub fn post(
     joints: &mut [f64],
     text: &mut [u8],
 ) -> usize
-    requires { ⌜ S.Rooms (length (now poses)) (length (now divided)) (length (now joints)) (length (now text)) ⌝ }
+    requires { ⌜ Steps.Rooms (length (now poses)) (length (now divided)) (length (now joints)) (length (now text)) ⌝ }
     ensures end { λ r. ⌜ r ≡ length (S.post (now (bytes .entry))) ⌝ }
     ensures text { λ r. ⌜ take r (now (text .exit)) ≡ S.post (now (bytes .entry)) ⌝ }
 {
@@ -45,8 +46,8 @@ fn post_job(
     joints: &mut [f64],
     text: &mut [u8],
 ) -> usize
-    requires rooms { ⌜ S.Rooms (length (now poses)) (length (now divided)) (length (now joints)) (length (now text)) ⌝ }
-    requires read { ⌜ S.IsJob (now bytes) j ⌝ }
+    requires rooms { ⌜ Steps.Rooms (length (now poses)) (length (now divided)) (length (now joints)) (length (now text)) ⌝ }
+    requires read { ⌜ Steps.IsJob (now bytes) j ⌝ }
     ensures end { λ r. ⌜ r ≡ length (S.pathText (j .chain) (S.pathOf (now (bytes .entry)) j)) ⌝ }
     ensures text { λ r. ⌜ take r (now (text .exit)) ≡ S.pathText (j .chain) (S.pathOf (now (bytes .entry)) j) ⌝ }
 {
@@ -65,8 +66,8 @@ fn solve(
     divided: &mut [f64],
     joints: &mut [f64],
 ) -> Division
-    requires rooms { ⌜ S.PathRooms (length (now poses)) (length (now divided)) (length (now joints)) ⌝ }
-    requires read { ⌜ S.IsJob (now bytes) j ⌝ }
+    requires rooms { ⌜ Steps.PathRooms (length (now poses)) (length (now divided)) (length (now joints)) ⌝ }
+    requires read { ⌜ Steps.IsJob (now bytes) j ⌝ }
     ensures answer { λ r. ⌜ r ≡ divisionIn (S.pathOf (now (bytes .entry)) j) ⌝ }
     ensures joints { λ r. ⌜ now (joints .exit) ≡ jointsLeft (S.pathOf (now (bytes .entry)) j) (now (joints .entry)) ⌝ }
 {
@@ -90,8 +91,8 @@ fn solve(
 
 // ---- how it ended
 fn path_length(given: usize, said: Division) -> usize
-    requires { ⌜ S.pathLength given said ≤ 700 ⌝ }
-    ensures { λ r. ⌜ r ≡ S.pathLength given said ⌝ }
+    requires { ⌜ Steps.pathLength given said ≤ 700 ⌝ }
+    ensures { λ r. ⌜ r ≡ Steps.pathLength given said ⌝ }
 {
     match said {
         Division::Refused(_) => 0,
@@ -156,8 +157,8 @@ fn figured(inserted: u64, first: Cable, second: Cable) -> Ended
 // ---- the text
 fn conclude(k: Kinematics, said: Division, path: &[f64], text: &mut [u8]) -> usize
     requires { ⌜ (length (now path) / 5 ≤ 700) × (65536 ≤ length (now text)) ⌝ }
-    ensures end { λ r. ⌜ r ≡ length (S.conclusion k said (now (path .entry))) ⌝ }
-    ensures text { λ r. ⌜ take r (now (text .exit)) ≡ S.conclusion k said (now (path .entry)) ⌝ }
+    ensures end { λ r. ⌜ r ≡ length (Steps.conclusion k said (now (path .entry))) ⌝ }
+    ensures text { λ r. ⌜ take r (now (text .exit)) ≡ Steps.conclusion k said (now (path .entry)) ⌝ }
 {
     let ended = ended_by(k, said, path);
     tell(ended, path, text)
@@ -174,7 +175,7 @@ fn tell(ended: Ended, path: &[f64], text: &mut [u8]) -> usize
 
 // No text of 700 lines is refused for want of room.
 fn end_of(told: Told) -> usize
-    ensures { λ r. ⌜ r ≡ S.endOf told ⌝ }
+    ensures { λ r. ⌜ r ≡ Steps.endOf told ⌝ }
 {
     match told {
         Told::Bytes(n) => n,

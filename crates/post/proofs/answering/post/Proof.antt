@@ -1,6 +1,6 @@
 use borrow.Author.Needs.{needs}
 use native.Mathlib.Omega.{arith}
-use mathlib.Core.Path.{refl, sym, _∙_}
+use mathlib.Core.Path.{sym, _∙_}
 use Rattle.post.specs.Posting.{post}
 use Rattle.post.proofs.answering.post.Statement.{statement}
 use Rattle.post.proofs.answering.post.Tie as tie

@@ -1,10 +1,9 @@
 use borrow.Author.Needs.{needs}
 use Prim.Native.Nat.{_*_}
 use native.Mathlib.Omega.{arith}
-use mathlib.Core.Path.{sym, ap, _∙_}
-use lib.ListN.{length}
+use mathlib.Core.Path.{sym}
 use lib.Seq.{length-take-le}
-use Rattle.post.specs.Posting.{pathOf, pathLength}
+use Rattle.post.specs.Posting.{pathOf}
 use Rattle.post.proofs.Lent.{sized-job}
 use Rattle.post.proofs.Paths.{few, concluded}
 use Rattle.post.proofs.answering.post_job.Statement.{statement}
