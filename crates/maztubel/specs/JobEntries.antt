@@ -1,5 +1,5 @@
 -- What the entries of a job answer, from the bytes and numbers that they are lent. What is lent is kept on a refusal.
-use Prim.Native.Nat.{ℕ, _%_}
+use Prim.Native.Nat.{ℕ, _%_, _<_}
 use mathlib.Core.Bool.{not, cond}
 use mathlib.Core.List.{List}
 use lib.Dec.{eqb}
@@ -16,7 +16,7 @@ use Rattle.job.specs.declared.JobRead.{JobRead}
 use Rattle.job.specs.declared.JobRead.the-variants as JobRead
 use Rattle.job.specs.declared.Cable.{Cable}
 use Rattle.job.specs.declared.Cable.the-variants as Cable
-use Rattle.job.specs.Cable.{cableNumber}
+use Rattle.job.specs.Cable.{jointSets, cableNumber, Largest}
 
 -- ---- a job that was read: an offset of the file with 29, a rotary with 4
 abbrev pub readCheck : JobRead → Checked
@@ -61,3 +61,9 @@ cableCheck (Cable.Refused r) = Checked.Refused r
 abbrev pub numberOver : Cable → ℕ → ℕ
 numberOver (Cable.Turns k) before = k
 numberOver (Cable.Refused r) before = before
+
+-- of a rotary that the chain has it is the largest
+abbrev pub CablePromise : ChainRead → List Float → ℕ → Cable → Type 0
+CablePromise (ChainRead.Refused r) joints rotary answer = Unit {0}
+CablePromise (ChainRead.Chain k) joints rotary (Cable.Refused r) = Unit {0}
+CablePromise (ChainRead.Chain k) joints rotary (Cable.Turns n) = rotary < k .count → Largest rotary (jointSets joints) n

@@ -1,6 +1,7 @@
 // The entries of a job: what its bytes say, its poses in lent numbers, and the cable number of a rotary on a path. A refusal keeps all that is lent but the place, and the letter where there is one.
 ghost use mathlib.Core.Path.{_≡_};
 ghost use lib.ListN.{length};
+ghost use Rattle.chain.specs.ChainBytes.{readChain};
 ghost use Rattle.job.specs.JobBytes.{readJob};
 ghost use Rattle.job.specs.JobPoses.{posesCheck, jobPoses};
 ghost use Rattle.maztubel.specs.Lent as Lent;
@@ -61,6 +62,7 @@ pub extern "C" fn maztubel_cable_number(
     ensures place { λ n. ⌜ now (at .exit) ≡ Lent.placeIn (S.cableCheck (S.cableOf (now (chain .entry)) (now (joints .entry)) rotary)) ⌝ }
     ensures named { λ n. ⌜ now (letter .exit) ≡ Lent.letterIn (S.cableCheck (S.cableOf (now (chain .entry)) (now (joints .entry)) rotary)) ⌝ }
     ensures lent { λ n. ⌜ now (number .exit) ≡ S.numberOver (S.cableOf (now (chain .entry)) (now (joints .entry)) rotary) (now (number .entry)) ⌝ }
+    ensures largest { λ n. ⌜ S.CablePromise (readChain 72 (now (chain .entry))) (now (joints .entry)) rotary (S.cableOf (now (chain .entry)) (now (joints .entry)) rotary) ⌝ }
 {
     let cable = cable_of(chain, joints, rotary);
     put_cable(cable, number);

@@ -1,4 +1,5 @@
 use borrow.Author.Needs.{needs}
+use Rattle.maztubel.proofs.Cables.{cable-promised}
 use Rattle.maztubel.proofs.job_entries.maztubel_cable_number.Statement.{statement}
 use Rattle.maztubel.proofs.job_entries.maztubel_cable_number.Tie as tie
 
@@ -18,7 +19,8 @@ returns : tie.Need-returns
 returns c =
     let cable = c .before .before .before .before .before .before .cable-of .ensures in
     let handed = rw (c .before .before .before .cable-check .ensures, cable) at (c .hand-back .ensures) in
-    (handed .0, (handed .1 .0, (handed .1 .1, rw cable at (c .before .before .before .before .put-cable .ensures))))
+    let given = c .before .before .before .before .before .before .before .before .before .args in
+    (handed .0, (handed .1 .0, (handed .1 .1, (rw cable at (c .before .before .before .before .put-cable .ensures), cable-promised (given .chain .now) (given .joints .now) (given .rotary)))))
 
 pub maztubel-cable-number-spec : {M : Type 1} → statement M
 maztubel-cable-number-spec = tie.close (tie.spec cable-of-requires put-cable-requires cable-check-requires hand-back-requires returns)
