@@ -1,5 +1,5 @@
 // The answer to a job: its path solved from angles zero and divided, with the cable numbers of its two rotaries, or its first refusal, as text.
-ghost use Prim.Native.Nat.{_*_, _/_, _≤_};
+ghost use Prim.Native.Nat.{_/_, _≤_};
 ghost use mathlib.Core.Path.{_≡_};
 ghost use lib.ListN.{length, take};
 ghost use Rattle.divide.specs.Subdividing.{divisionIn, jointsLeft};
