@@ -1,4 +1,4 @@
-//! The exports of the crate `probe`: what was proved of `float` and the pair of waves of `trig`, under Rust's names.
+//! The exports of the crate `probe`: what was proved of `float`, `root` and the pair of waves of `trig`, under Rust's names.
 
 use std::cmp::Ordering;
 

@@ -31,12 +31,12 @@ use Rattle.middle.specs.declared.Tolerances.{Tolerances}
 use Rattle.divide.specs.Checking.{divisionCheck}
 use Rattle.machine.specs.Dividing.{posesOver, jointsOver}
 use Rattle.divide.specs.Subdividing.{DivisionAnswer, divisionIn, posesLeft, jointsLeft, given, clearing, subdividePath, threeWhole, bothCheck, solvedPath, foundIn, solveAndDivide}
-use Rattle.machine.specs.Items.{spaceIn}
+use Rattle.turn.specs.Items.{spaceIn}
 use Rattle.divide.specs.Subdividing as Ways
 use Rattle.divide.specs.Price.{AllZero, Checks, Price, IfSolved, SolvedAndDivided}
-use Rattle.machine.proofs.Stored.{joints-codec}
+use Rattle.turn.proofs.Stored.{joints-codec}
 use Rattle.machine.proofs.Copies.{joints-by-length}
-use Rattle.machine.proofs.Space.{space-joints}
+use Rattle.turn.proofs.Space.{space-joints}
 use Rattle.divide.proofs.PriceLent.{zero-all}
 
 -- ---- the checks before solving

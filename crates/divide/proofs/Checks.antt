@@ -12,9 +12,9 @@ use Rattle.lists.specs.Rows.{rows}
 use Rattle.lists.specs.Search.{all}
 use Rattle.lists.proofs.Rows.{rows-append-le}
 use Rattle.chain.specs.declared.Joints.{Joints}
-use Rattle.machine.specs.Items.{jointsFrom}
+use Rattle.turn.specs.Items.{jointsFrom}
 use Rattle.divide.specs.Checking.{allFinite, jointSetsIn}
-use Rattle.machine.proofs.Stored.{joints-codec}
+use Rattle.turn.proofs.Stored.{joints-codec}
 
 all-poses : {r b : Bool} (poses : List Float) → r ≡ all finite (take (length poses) poses) → r ≡ b → all finite poses ≡ b
 all-poses poses a b = ap (all finite) (sym (take-all (length poses) poses (omega arith))) ∙ sym a ∙ b

@@ -17,10 +17,10 @@ use Rattle.halving.specs.Halving.{Answer, Done, NoSpace, step, halve}
 use Rattle.chain.specs.declared.Prepared.{Prepared}
 use Rattle.middle.specs.declared.Item.{Item}
 use Rattle.middle.specs.declared.Tolerances.{Tolerances}
-use Rattle.machine.specs.Items.{itemsIn}
+use Rattle.turn.specs.Items.{itemsIn}
 use Rattle.machine.specs.Dividing.{division, posesOver, jointsOver}
 use Rattle.divide.specs.Subdividing.{divisionWithin, idle, idleAnswer}
-use Rattle.machine.proofs.Stored.{items-length}
+use Rattle.turn.proofs.Stored.{items-length}
 
 pub less-or-not : (m n : ℕ) → (m < n) ⊎ (n ≤ m)
 less-or-not m n = go (ltb m n) (ltb-true m n) (ltb-false m n)

@@ -9,10 +9,10 @@ use lib.Ieee.{Float, nan, inf, fin, binary64, up, down, add, mul, le, lt, eq, of
 use lib.Ieee.Fits.{down-pos, mul-fits, sub-fits}
 use lib.Ieee.Scale.{finite}
 use Rattle.float.specs.Helpers.{nought}
-use Rattle.float.specs.Root.{root}
+use Rattle.root.specs.Root.{root}
 use Rattle.float.proofs.Order as order
-use Rattle.float.proofs.RootOrder.{round-nn, add-above, norm}
-use Rattle.float.proofs.RootGap.{tiny, gap-law}
+use Rattle.root.proofs.RootOrder.{round-nn, add-above, norm}
+use Rattle.root.proofs.RootGap.{tiny, gap-law}
 use Rattle.geometry.specs.Vector as Vector
 use Rattle.geometry.specs.Vector.{minus}
 use Rattle.chain.specs.declared.Joints.{Joints}

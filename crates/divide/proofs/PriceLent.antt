@@ -26,10 +26,10 @@ use Rattle.divide.specs.declared.Division.{Division}
 use Rattle.divide.specs.declared.Division.the-variants.{Refused, AtPose, Ended}
 use Rattle.middle.specs.declared.Item.{Item}
 use Rattle.middle.specs.declared.Tolerances.{Tolerances}
-use Rattle.machine.specs.Items.{jointsFrom, poseNumbers, item, itemsIn}
+use Rattle.turn.specs.Items.{jointsFrom, poseNumbers, item, itemsIn}
 use Rattle.machine.specs.Dividing.{dividedIn, posesOver, jointsOver}
 use Rattle.divide.specs.Price.{Result, AllZero, ZeroBehind, Checks, Price}
-use Rattle.machine.proofs.Stored.{pose-codec, joints-codec}
+use Rattle.turn.proofs.Stored.{pose-codec, joints-codec}
 use Rattle.divide.proofs.Price.{Answered}
 
 -- ---- the cases of an answer

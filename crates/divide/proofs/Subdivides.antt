@@ -27,12 +27,12 @@ use Rattle.divide.specs.declared.Division.{Division}
 use Rattle.divide.specs.declared.Division.the-variants.{Refused, Ended}
 use Rattle.middle.specs.declared.Item.{Item}
 use Rattle.middle.specs.declared.Tolerances.{Tolerances}
-use Rattle.machine.specs.Items.{jointsFrom, item, itemsIn, spaceIn}
+use Rattle.turn.specs.Items.{jointsFrom, item, itemsIn, spaceIn}
 use Rattle.divide.specs.Checking.{FitUpTo, divisionCheck}
 use Rattle.machine.specs.Dividing.{division, dividedIn, posesOver, jointsOver}
 use Rattle.divide.specs.Subdividing.{divisionIn, posesLeft, jointsLeft, given, divisionWithin, subdividePath, foundIn}
 use Rattle.divide.specs.Price.{Price, IfSolved}
-use Rattle.machine.proofs.Stored.{joints-codec}
+use Rattle.turn.proofs.Stored.{joints-codec}
 use Rattle.machine.proofs.Copies.{joints-front}
 use Rattle.divide.proofs.Idle.{less-or-not, busy-within, full-within}
 use Rattle.divide.proofs.Price.{Answered, priced}

@@ -18,7 +18,7 @@ use Rattle.chain.specs.declared.ToolPose.{ToolPose}
 use Rattle.chain.specs.Check.{demand, firstRefusal, allWithin, longest, pivotsWithin, jointsWithin}
 use Rattle.path.specs.Solving.{posesIn, wholeRecords, pathChain}
 use Rattle.middle.specs.declared.Tolerances.{Tolerances}
-use Rattle.machine.specs.Items.{jointsFrom}
+use Rattle.turn.specs.Items.{jointsFrom}
 
 -- ---- a tolerance: finite and above 0
 unfoldable pub toleranceGood : Float → Bool

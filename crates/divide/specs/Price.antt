@@ -29,7 +29,7 @@ use Rattle.divide.specs.declared.Division.the-variants as Division
 use Rattle.divide.specs.declared.Division.the-variants.{Refused, Ended}
 use Rattle.middle.specs.declared.Item.{Item}
 use Rattle.middle.specs.declared.Tolerances.{Tolerances}
-use Rattle.machine.specs.Items.{itemsIn, spaceIn}
+use Rattle.turn.specs.Items.{itemsIn, spaceIn}
 use Rattle.middle.specs.Testing.{least, midpoint, segmentWithin, divides}
 use Rattle.divide.specs.Checking.{divisionCheck}
 use Rattle.divide.specs.Subdividing.{given, solvedPath}

@@ -24,7 +24,7 @@ use Rattle.divide.specs.declared.Division.{Division}
 use Rattle.divide.specs.declared.Division.the-variants as Division
 use Rattle.middle.specs.declared.Item.{Item}
 use Rattle.middle.specs.declared.Tolerances.{Tolerances}
-use Rattle.machine.specs.Items.{itemsIn, spaceIn}
+use Rattle.turn.specs.Items.{itemsIn, spaceIn}
 use Rattle.divide.specs.Checking.{divisionCheck}
 use Rattle.machine.specs.Dividing.{division, dividedIn, posesOver, jointsOver}
 

@@ -11,9 +11,9 @@ use chain::Checked;
 use chain::Kinematics;
 use chain::demand;
 use chain::then;
-use machine::space_in;
 use middle::Tolerances;
 use path::Start;
+use turn::space_in;
 
 pub fn three_whole(poses: usize, room_poses: usize, room_joints: usize) -> bool
     ensures { λ r. ⌜ r ≡ S.threeWhole poses «room_poses» «room_joints» ⌝ }

@@ -13,8 +13,8 @@ use chain::Kinematics;
 use machine::Divided;
 use machine::divide_given;
 use machine::divide_solved;
-use machine::space_in;
 use middle::Tolerances;
+use turn::space_in;
 
 // Nothing is to be halved: there is no pose, or no space for those that are given.
 fn idle(space: usize, count: usize) -> bool

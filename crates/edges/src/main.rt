@@ -42,7 +42,7 @@ fn of_one(x: f64) {
     answer(b"clamp_unit", x, float::clamp_unit(x));
     answer(b"to_radians", x, float::to_radians(x));
     answer(b"to_degrees", x, float::to_degrees(x));
-    answer(b"root", x, float::root(x));
+    answer(b"root", x, root::root(x));
 }
 
 fn of_two(x: f64, y: f64) {

@@ -13,14 +13,5 @@ pub mod TotalOrder
 pub mod Whole
 pub mod Monotone
 pub mod Between
-pub mod WholeRoot
-pub mod RootParts
-pub mod RootCases
-pub mod RootTests
-pub mod RootOrder
-pub mod RootUnique
-pub mod RootNearby
-pub mod RootGuess
-pub mod RootQuick
+pub mod NotNan
 pub mod SizeBits
-pub mod RootGap

@@ -10,7 +10,7 @@ use lib.Ieee.Bits.{ofBits-toBits}
 use Rattle.float.proofs.Units.{held}
 use Rattle.float.proofs.Pattern.{rank, bits-rank, rank-hi}
 use Rattle.float.proofs.Choices.{nan-of}
-use Rattle.float.proofs.RootGuess.{low-bits}
+use Rattle.float.proofs.NotNan.{low-bits}
 use Rattle.float.specs.Helpers.{sizeOf}
 
 nan-itself : (x : Float) → isNan x ≡ true → x ≡ sizeOf x

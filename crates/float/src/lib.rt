@@ -1,15 +1,10 @@
-// Total functions on every f64: what Rust's standard library gives the kinematics, and the square root. Each answers a definition of specs/ at every float, the nan and the infinities among them.
+// Total functions on every f64: what Rust's standard library gives the kinematics, but for the square root, which is crate root. Each answers a definition of specs/ at every float, the nan and the infinities among them.
 ghost use mathlib.Core.Path.{_≡_};
 ghost use mathlib.Core.Bool.{true, false};
 ghost use lib.Ieee.{lt, eq};
 ghost use lib.Ieee.Scale.{finite as isFinite};
 ghost use Rattle.float.specs.Helpers as S;
 ghost use Rattle.float.specs.TotalOrder as Total;
-
-mod square_root;
-
-pub use square_root::quick_root;
-pub use square_root::root;
 
 pub enum Comparison {
     Less,

@@ -4,7 +4,7 @@ use lib.Ieee as Ieee
 use lib.Ieee.{Float, binary64, ofBits}
 use lib.Ieee.Scale.{finite}
 use Rattle.float.specs.Helpers.{nought, one, sizeOf}
-use Rattle.float.specs.Root.{root}
+use Rattle.root.specs.Root.{root}
 use Rattle.geometry.specs.Vector.{dot, scale, over}
 use Rattle.geometry.specs.declared.Vec3.{Vec3}
 use Rattle.geometry.specs.declared.Direction.{Direction}

@@ -1,7 +1,7 @@
 -- Vectors of binary64: each operation with its rounded steps in the Rust's order. No sum is reordered and nothing is fused.
 use lib.Ieee as Ieee
 use lib.Ieee.{Float, binary64, ofBits}
-use Rattle.float.specs.Root.{root}
+use Rattle.root.specs.Root.{root}
 use Rattle.geometry.specs.declared.Vec3.{Vec3}
 
 -- a + b, a - b, a * b, a / b in binary64

@@ -57,7 +57,7 @@ pub fn unit_direction(v: Vec3) -> Direction
     if tiny(v) {
         return Direction::Nowhere;
     }
-    let len = float::quick_root(dot(v, v));
+    let len = root::quick_root(dot(v, v));
     with_length(v, len)
 }
 

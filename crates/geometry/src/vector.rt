@@ -53,7 +53,7 @@ pub fn cross(a: Vec3, b: Vec3) -> Vec3
 pub fn norm(v: Vec3) -> f64
     ensures { λ r. ⌜ r ≡ S.norm v ⌝ }
 {
-    float::quick_root(dot(v, v))
+    root::quick_root(dot(v, v))
 }
 
 // The Euclidean distance.

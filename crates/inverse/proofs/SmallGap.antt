@@ -10,9 +10,9 @@ use lib.Ieee.Bits.{ofBits-fits}
 use lib.Ieee.Fits.{down-pos, add-fits}
 use lib.Ieee.Order.{le-of-values}
 use Rattle.float.specs.Helpers.{nought}
-use Rattle.float.specs.Root.{root}
+use Rattle.root.specs.Root.{root}
 use Rattle.float.proofs.Order as order
-use Rattle.float.proofs.RootOrder.{root-mono}
+use Rattle.root.proofs.RootOrder.{root-mono}
 use Rattle.geometry.specs.declared.Vec3.{Vec3}
 use Rattle.geometry.specs.Vector.{dot, norm}
 use Rattle.inverse.specs.Subproblem.{shortest}

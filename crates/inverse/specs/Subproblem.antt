@@ -3,7 +3,7 @@ use mathlib.Core.Bool.{cond}
 use lib.Ieee as Ieee
 use lib.Ieee.{Float, binary64, ofBits}
 use Rattle.float.specs.Helpers.{nought, one, sizeOf, clampUnit, maximum, toDegrees}
-use Rattle.float.specs.Root.{root}
+use Rattle.root.specs.Root.{root}
 use Rattle.trig.specs.Arctangent.{arctangentOf}
 use Rattle.trig.specs.declared.Answer.{Answer}
 use Rattle.trig.specs.declared.Answer.the-variants.{Value, OutOfRange}

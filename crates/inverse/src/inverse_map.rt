@@ -48,7 +48,7 @@ pub fn misses(axis: Vec3, target: Vec3) -> bool
     if square <= 8.673617379884035e-19 {
         return false;
     }
-    1e-9 < float::root(square)
+    1e-9 < root::root(square)
 }
 
 // The angles with the position that puts the tip from `tip0` on `tip`. `turns` are those of the rotaries at these angles.

@@ -94,7 +94,7 @@ fn one_pair(pair: SolvedPair) -> SolvedPairs
 fn sine_of(cosine: f64) -> f64
     ensures { λ r. ⌜ r ≡ S.sineBeside cosine ⌝ }
 {
-    float::root(float::maximum((1.0 - cosine) * (1.0 + cosine), 0.0))
+    root::root(float::maximum((1.0 - cosine) * (1.0 + cosine), 0.0))
 }
 
 // The two points, or the one where they meet, in the frame e1, e2 about wa.

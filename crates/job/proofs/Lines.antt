@@ -12,7 +12,7 @@ use lib.Seq.{drop-drop}
 use lib.Ieee.{Float}
 use Rattle.lists.specs.Rows.{rows}
 use Rattle.chain.specs.declared.Joints.{Joints}
-use Rattle.machine.specs.Items.{jointsFrom, jointsIn}
+use Rattle.turn.specs.Items.{jointsFrom, jointsIn}
 use Rattle.job.specs.Cable.{jointSets}
 use Rattle.job.specs.Spelling.{written, width, decimal, number}
 use Rattle.job.specs.Telling.{newline, numbers, line, lines, linesLength, linesFit}

@@ -14,7 +14,7 @@ use Rattle.lists.proofs.Fold.{Folding, folding-start, folding-step, folding-end
 use Rattle.lists.proofs.Rows.{length-rows, getD-rows}
 use Rattle.chain.specs.declared.Joints.{Joints}
 use Rattle.chain.specs.Check.{jointsFinite, jointsWithin}
-use Rattle.machine.specs.Items.{jointsFrom, jointsIn}
+use Rattle.turn.specs.Items.{jointsFrom, jointsIn}
 use Rattle.job.specs.Cable.{jointSets, angleOf, turnsWithin, larger, mostTurns, also, surveyed, survey}
 use Rattle.job.specs.declared.Survey.{Survey}
 

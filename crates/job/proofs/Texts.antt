@@ -10,7 +10,7 @@ use lib.Ieee.{Float}
 use Rattle.lists.proofs.Rows.{length-rows}
 use Rattle.refusal.specs.declared.Refusal.{Refusal}
 use Rattle.chain.specs.declared.Joints.{Joints}
-use Rattle.machine.specs.Items.{jointsFrom}
+use Rattle.turn.specs.Items.{jointsFrom}
 use Rattle.job.specs.Cable.{jointSets}
 use Rattle.job.specs.Spelling.{written, width, labelled, paired}
 use Rattle.job.specs.Telling.{newline, posesWord, insertedWord, turnsWord, space, refusedWord, poseWord, lines, linesLength, linesFit, head, headLength, pathText, refusalText, poseText, told, toldOver, noSpace}

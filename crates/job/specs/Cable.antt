@@ -16,7 +16,7 @@ use Rattle.chain.specs.declared.Checked.the-variants as Checked
 use Rattle.chain.specs.declared.Joints.{Joints}
 use Rattle.chain.specs.declared.Kinematics.{Kinematics}
 use Rattle.chain.specs.Check.{demand, firstRefusal, chainCheck, pivotsWithin, jointsFinite, jointsWithin, within, mostTurned}
-use Rattle.machine.specs.Items.{jointsFrom}
+use Rattle.turn.specs.Items.{jointsFrom}
 use Rattle.job.specs.declared.Survey.{Survey}
 use Rattle.job.specs.declared.Cable.{Cable}
 use Rattle.job.specs.declared.Cable.the-variants as Cable

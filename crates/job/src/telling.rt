@@ -51,7 +51,7 @@ fn put_lines(joints: &[f64], out: &mut [u8], at: usize) -> usize
     let mut end = at;
     let mut i = 0;
     while i < n {
-        let j = machine::joints_in(joints, i * 5);
+        let j = turn::joints_in(joints, i * 5);
         end = put_line(i as u64, j, out, end);
         i += 1;
     }

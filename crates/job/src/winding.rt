@@ -72,7 +72,7 @@ fn survey(rotary: usize, joints: &[f64]) -> Survey
     };
     let mut i = 0;
     while i < n {
-        let j = machine::joints_in(joints, i * 5);
+        let j = turn::joints_in(joints, i * 5);
         s = surveyed(rotary, s, j);
         i += 1;
     }

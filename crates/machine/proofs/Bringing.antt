@@ -6,10 +6,10 @@ use mathlib.Core.List.{List}
 use lib.ListN.{length, getD, take, drop, set}
 use lib.Ieee.{Float}
 use Rattle.halving.proofs.Moving.{Moving, moving-start, moving-step}
-use Rattle.machine.specs.Items.{itemAt, itemsIn, posesWith, jointsWith}
-use Rattle.machine.specs.Dividing.{absent}
+use Rattle.turn.specs.Items.{itemAt, itemsIn, posesWith, jointsWith}
+use Rattle.turn.specs.Turning.{absent}
 use Rattle.middle.specs.declared.Item.{Item}
-use Rattle.machine.proofs.Stored.{items-length, items-take, item-is, item-set, poses-with-long, joints-with-long}
+use Rattle.turn.proofs.Stored.{items-length, items-take, item-is, item-set, poses-with-long, joints-with-long}
 
 module _ (space count : ℕ) (poses₀ joints₀ : List Float) where
   pub record Bringing (poses joints : List Float) (j : ℕ) : Type 0 where

@@ -11,12 +11,12 @@ use Rattle.lists.proofs.Fold.{pushed}
 use Rattle.lists.proofs.Rows.{rows-append-le}
 use Rattle.halving.specs.Halving.{Answer, Done, TooMany, NoSpace}
 use Rattle.chain.specs.declared.Prepared.{Prepared}
-use Rattle.machine.specs.Items.{itemsIn}
+use Rattle.turn.specs.Items.{itemsIn}
 use Rattle.machine.specs.Dividing.{division, dividedIn, posesOver, jointsOver}
 use Rattle.machine.specs.declared.Divided.{Divided}
 use Rattle.middle.specs.declared.Item.{Item}
 use Rattle.middle.specs.declared.Tolerances.{Tolerances}
-use Rattle.machine.proofs.Stored.{pose-codec, joints-codec}
+use Rattle.turn.proofs.Stored.{pose-codec, joints-codec}
 
 -- the first i are copied, and nothing else is touched
 pub record Fronting {A : Type 0} (l o o' : List A) (i : ℕ) : Type 0 where

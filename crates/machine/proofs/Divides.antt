@@ -16,18 +16,18 @@ use Rattle.halving.specs.Halving.{Answer}
 use Rattle.halving.proofs.Machine.{State, start-placed}
 use Rattle.chain.specs.declared.Prepared.{Prepared}
 use Rattle.path.specs.Solving.{jointNumbers}
-use Rattle.machine.specs.Items.{poseNumbers, item, itemsIn}
+use Rattle.turn.specs.Items.{poseNumbers, item, itemsIn}
 use Rattle.middle.specs.Testing.{divides, midpoint}
-use Rattle.machine.specs.Turning.{most, axisAt, endAtStart, begun}
-use Rattle.machine.specs.Dividing.{divisionAfter, dividedIn, posesOver, jointsOver, absent, reached, Ready, halvedFrom, RanTo, Ran, staying, answerIn}
+use Rattle.turn.specs.Turning.{most, axisAt, endAtStart, begun, absent, reached}
+use Rattle.machine.specs.Dividing.{divisionAfter, dividedIn, posesOver, jointsOver, Ready, halvedFrom, RanTo, Ran, staying, answerIn}
 use Rattle.machine.specs.declared.Divided.{Divided}
 use Rattle.middle.specs.declared.Item.{Item}
-use Rattle.machine.specs.declared.Machine.{Machine}
+use Rattle.turn.specs.declared.Machine.{Machine}
 use Rattle.middle.specs.declared.Tolerances.{Tolerances}
-use Rattle.machine.specs.declared.Turn.{Turn}
-use Rattle.machine.specs.declared.Turn.the-variants.{On, TooMany, NoSpace}
-use Rattle.machine.proofs.Stored.{pose-codec, joints-codec, items-length}
-use Rattle.machine.proofs.Running.{axis-there}
+use Rattle.turn.specs.declared.Turn.{Turn}
+use Rattle.turn.specs.declared.Turn.the-variants.{On, TooMany, NoSpace}
+use Rattle.turn.proofs.Stored.{pose-codec, joints-codec, items-length}
+use Rattle.turn.proofs.Running.{axis-there}
 
 staying-least : (answer : Answer Item) (space : ℕ) (poses joints : List Float) (r : Turn) → RanTo answer space poses joints r → staying r ≤ space
 staying-least answer space poses joints (On last) h = h .1

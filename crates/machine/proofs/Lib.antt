@@ -1,10 +1,5 @@
-pub mod Turned
-pub mod Stored
-pub mod Cached
-pub mod Running
 pub mod Runs
 pub mod Bringing
 pub mod Divides
 pub mod Copies
-pub mod Space
 pub mod Pairs

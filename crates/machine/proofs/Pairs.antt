@@ -12,15 +12,15 @@ use borrow.Author.Tests.{leb-true, leb-false}
 use Rattle.halving.specs.Halving.{step, Answer, Done, TooMany, NoSpace, count}
 use Rattle.halving.proofs.Step.{halve-done, halve-many}
 use Rattle.chain.specs.declared.Prepared.{Prepared}
-use Rattle.machine.specs.Items.{itemsIn, posesWith, jointsWith}
+use Rattle.turn.specs.Items.{itemsIn, posesWith, jointsWith}
 use Rattle.middle.specs.Testing.{divides, midpoint}
-use Rattle.machine.specs.Turning.{most}
+use Rattle.turn.specs.Turning.{most}
 use Rattle.machine.specs.Dividing.{divisionAfter, dividedIn, posesOver, jointsOver}
 use Rattle.machine.specs.Filling.{pairHalved, counted, recounted, countIn}
 use Rattle.machine.specs.declared.Divided.{Divided}
 use Rattle.middle.specs.declared.Item.{Item}
 use Rattle.middle.specs.declared.Tolerances.{Tolerances}
-use Rattle.machine.proofs.Stored.{items-length, item-set, poses-with-long, joints-with-long}
+use Rattle.turn.proofs.Stored.{items-length, item-set, poses-with-long, joints-with-long}
 use Rattle.machine.proofs.Copies.{poses-by-length, joints-by-length}
 
 -- ---- the pair at the front

@@ -8,14 +8,14 @@ use lib.Ieee.{Float}
 use Rattle.halving.specs.Halving.{Done}
 use Rattle.halving.proofs.Machine.{start-anywhere, finish}
 use Rattle.chain.specs.declared.Prepared.{Prepared}
-use Rattle.machine.specs.Turning.{Runs, turn, posesAfter, jointsAfter}
+use Rattle.turn.specs.Turning.{Runs, turn, posesAfter, jointsAfter}
 use Rattle.machine.specs.Dividing.{Ready, held, halvedFrom, Ran}
-use Rattle.machine.specs.declared.Machine.{Machine}
+use Rattle.turn.specs.declared.Machine.{Machine}
 use Rattle.middle.specs.declared.Tolerances.{Tolerances}
-use Rattle.machine.specs.declared.Turn.{Turn}
-use Rattle.machine.specs.declared.Turn.the-variants.{On, TooMany, NoSpace}
-use Rattle.machine.proofs.Stored.{items-length, items-take}
-use Rattle.machine.proofs.Running.{Here, Turned, work, turned}
+use Rattle.turn.specs.declared.Turn.{Turn}
+use Rattle.turn.specs.declared.Turn.the-variants.{On, TooMany, NoSpace}
+use Rattle.turn.proofs.Stored.{items-length, items-take}
+use Rattle.turn.proofs.Running.{Here, Turned, work, turned}
 
 module _ (p : Prepared) (tol : Tolerances) (space : ℕ) (poses₀ joints₀ : List Float) (m₀ : Machine) where
   pub record Going (poses joints : List Float) (m : Machine) : Type 0 where

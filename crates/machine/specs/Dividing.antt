@@ -1,28 +1,27 @@
 -- The division of a path: document 01's halving of its items, and what it leaves in the two lent outputs. What the machine is ready for is said here too.
-use Prim.Native.Nat.{ℕ, _+_, _-_, _*_, _≤_, _<_}
+use Prim.Native.Nat.{ℕ, _-_, _*_, _≤_, _<_}
 use mathlib.Core.Path.{_≡_}
 use mathlib.Core.Option.{none}
-use mathlib.Core.List.{List, [], _++_, map}
-use lib.ListN.{length, getD, take, drop, replicate}
+use mathlib.Core.List.{List, _++_, map}
+use lib.ListN.{length, take, drop, replicate}
 use lib.Ieee.{Float}
 use Rattle.float.specs.Helpers.{nought}
 use Rattle.lists.specs.Padding.{padded}
 use Rattle.lists.specs.Rows.{flat}
 use Rattle.halving.specs.Halving.{Answer, Done, step, halve}
 use Rattle.halving.specs.Halving as Halving
-use Rattle.geometry.specs.declared.Vec3.{Vec3}
 use Rattle.chain.specs.declared.Prepared.{Prepared}
-use Rattle.path.specs.Solving.{poseFrom, jointNumbers}
-use Rattle.machine.specs.Items.{jointsFrom, poseNumbers, item, itemsIn}
-use Rattle.middle.specs.Testing.{poseOf, midpoint, divides}
-use Rattle.machine.specs.Turning.{most}
+use Rattle.path.specs.Solving.{jointNumbers}
+use Rattle.turn.specs.Items.{poseNumbers, itemsIn}
+use Rattle.middle.specs.Testing.{midpoint, divides}
+use Rattle.turn.specs.Turning.{most, Cached}
 use Rattle.machine.specs.declared.Divided.{Divided}
 use Rattle.machine.specs.declared.Divided.the-variants as Divided
 use Rattle.middle.specs.declared.Item.{Item}
-use Rattle.machine.specs.declared.Machine.{Machine}
+use Rattle.turn.specs.declared.Machine.{Machine}
 use Rattle.middle.specs.declared.Tolerances.{Tolerances}
-use Rattle.machine.specs.declared.Turn.{Turn}
-use Rattle.machine.specs.declared.Turn.the-variants.{On, TooMany, NoSpace}
+use Rattle.turn.specs.declared.Turn.{Turn}
+use Rattle.turn.specs.declared.Turn.the-variants.{On, TooMany, NoSpace}
 
 -- ---- the division, and what it leaves
 -- with `had` inserted before, which count
@@ -50,21 +49,6 @@ jointsOver (Halving.TooMany n) out = replicate (length out) nought
 jointsOver (Halving.NoSpace n) out = replicate (length out) nought
 
 -- ---- the machine's promise
--- what stands for an item that is not there
-abbrev pub absent : Item
-absent = item (poseFrom []) (jointsFrom [])
-
--- the axis that an item's joints reach
-abbrev pub reached : Prepared → Item → Vec3
-reached p t = poseOf p (t .joints) .axis
-
--- of those that wait, from s up to `space`, the last `given` are given ones; the others have the pose that their joints reach
-pub record Cached (p : Prepared) (space : ℕ) (o : List Item) (k s given : ℕ) (leftAxis endAxis : Vec3) : Type 0 where
-  pub fewer : given ≤ space - s
-  pub at-left : leftAxis ≡ reached p (getD o (k - 1) absent)
-  pub own : (i : ℕ) → s ≤ i → i < space - given → getD o i absent .pose ≡ poseOf p (getD o i absent .joints)
-  pub at-end : 0 < given → endAxis ≡ reached p (getD o (space - given) absent)
-
 -- a machine that can run: no two that are placed divide, and the axes at hand are right
 pub record Ready (p : Prepared) (tol : Tolerances) (space : ℕ) (m : Machine) (poses joints : List Float) : Type 0 where
   pub some-placed : 0 < m .placed

@@ -7,9 +7,9 @@ use lib.ListN.{length}
 use lib.Ieee.{Float}
 use Rattle.halving.specs.Halving.{Answer, NoSpace, count}
 use Rattle.chain.specs.declared.Prepared.{Prepared}
-use Rattle.machine.specs.Turning.{most}
+use Rattle.turn.specs.Turning.{most}
 use Rattle.machine.specs.Dividing.{divisionAfter}
-use Rattle.machine.specs.Items.{spaceIn}
+use Rattle.turn.specs.Items.{spaceIn}
 use Rattle.machine.specs.declared.Divided.{Divided}
 use Rattle.machine.specs.declared.Divided.the-variants as Divided
 use Rattle.middle.specs.declared.Item.{Item}

@@ -1,5 +1,3 @@
--- The halving in lent outputs. `Items`: poses with their joint sets in lent numbers, and the space for them. `Turning`: one turn of the machine that divides in them. `Dividing`: the division, and what it leaves. `Filling`: one pair divided after others.
-pub mod Items
-pub mod Turning
+-- The halving in lent outputs. `Dividing`: the division, and what it leaves. `Filling`: one pair divided after others.
 pub mod Dividing
 pub mod Filling

@@ -1,23 +1,35 @@
 // The division of a path in two lent outputs, at the front of which its items stand: all but the first are brought to the end, the machine runs, and what it leaves behind is cleared.
 ghost use Prim.Native.Nat.{_+_, _-_, _*_, _≤_, _<_};
 ghost use mathlib.Core.Path.{_≡_};
+ghost use mathlib.Core.List.{_++_};
 ghost use lib.ListN.{length, take, drop};
 ghost use Rattle.float.specs.Helpers.{nought};
 ghost use Rattle.lists.specs.Padding.{padded};
-ghost use Rattle.machine.specs.Items.{itemsIn};
-ghost use Rattle.machine.specs.Turning.{axisAt, endAtStart, begun};
+ghost use Rattle.turn.specs.Items.{itemsIn};
+ghost use Rattle.turn.specs.Turning.{axisAt, endAtStart, begun};
 ghost use Rattle.machine.specs.Dividing as S;
 use crate::Divided;
-use crate::Machine;
-use crate::Turn;
-use crate::items::copy_front;
-use crate::items::item_at;
-use crate::items::put_item;
-use crate::turning::advance;
-use crate::turning::axis_at;
 use chain::Prepared;
 use geometry::Vec3;
 use middle::Tolerances;
+use turn::Machine;
+use turn::Turn;
+use turn::advance;
+use turn::axis_at;
+use turn::item_at;
+use turn::put_item;
+
+// Copies numbers to the front of an output.
+fn copy_front(from: &[f64], to: &mut [f64])
+    requires { ⌜ length (now from) ≤ length (now to) ⌝ }
+    ensures { λ u. ⌜ now (to .exit) ≡ now (from .entry) ++ drop (length (now (from .entry))) (now (to .entry)) ⌝ }
+{
+    let mut i = 0;
+    while i < from.len() {
+        to[i] = from[i];
+        i += 1;
+    }
+}
 
 // Brings all items but the first from the front to the end of `space`, the last one first.
 fn bring(space: usize, count: usize, poses: &mut [f64], joints: &mut [f64])

@@ -8,12 +8,12 @@ ghost use Rattle.machine.specs.Filling as S;
 use crate::Divided;
 use crate::Subdiv;
 use crate::dividing::divide_after;
-use crate::items::put_item;
-use crate::items::space_in;
-use crate::turning::MOST;
 use chain::Prepared;
 use middle::Item;
 use middle::Tolerances;
+use turn::MOST;
+use turn::put_item;
+use turn::space_in;
 
 // Where the machine's count starts: it knows none past 10,000.
 fn counted(had: u64) -> u64

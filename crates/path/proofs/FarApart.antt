@@ -5,10 +5,10 @@ use lib.Dec.{T}
 use lib.Ieee.{Float, binary64, round, ofBits, le, lt, eq, isNan, fits}
 use lib.Ieee.Bits.{ofBits-fits}
 use Rattle.float.specs.Helpers.{nought, negative}
-use Rattle.float.specs.Root.{root}
+use Rattle.root.specs.Root.{root}
 use Rattle.float.specs.TotalOrder.{before}
 use Rattle.float.proofs.Order as order
-use Rattle.float.proofs.RootOrder.{root-mono}
+use Rattle.root.proofs.RootOrder.{root-mono}
 use Rattle.path.specs.Closest.{nearSquare, farSquare, farApart, rootBefore}
 
 constants : lt (root nearSquare) (root farSquare) ≡ true

@@ -14,7 +14,7 @@ use lib.Ieee.Bits.{ofBits-fits}
 use lib.Ieee.Scale.{finite}
 use lib.Ieee.Positive.{num as top}
 use Rattle.float.specs.Helpers.{nought, one, negative, sizeOf, clampUnit, minimum, toDegrees}
-use Rattle.float.specs.Root.{root}
+use Rattle.root.specs.Root.{root}
 use lib.Ieee.Order.{round-mono}
 use Rattle.float.proofs.Commute.{mul-commutes}
 use Rattle.float.proofs.Order as order
@@ -24,7 +24,7 @@ use Rattle.geometry.specs.declared.Vec3.{Vec3}
 use Rattle.geometry.specs.Vector.{dot}
 use Rattle.geometry.specs.Slerp.{with, halfTurnDegrees}
 use Rattle.path.specs.declared.SingularFrame.{SingularFrame}
-use Rattle.float.proofs.RootOrder.{root-mono}
+use Rattle.root.proofs.RootOrder.{root-mono}
 use Rattle.trig.specs.Arccosine.{sineOfCosine, cosineRange, arccosineOf, ArccosineValue, ArccosineAnswer}
 use Rattle.trig.proofs.ArccosineLaws.{sine-sound, arccosine-answer}
 use Rattle.path.specs.Singular.{tenDegrees, wide, leastSquare, wellOutside, poleClearanceDeg, inSingularCone}

@@ -3,7 +3,7 @@ use mathlib.Core.Bool.{Bool, true, false, not, cond, _&&_}
 use lib.Ieee as Ieee
 use lib.Ieee.{Float, binary64, ofBits}
 use Rattle.float.specs.Helpers.{nought}
-use Rattle.float.specs.Root.{root}
+use Rattle.root.specs.Root.{root}
 use Rattle.float.specs.TotalOrder.{before}
 use Rattle.geometry.specs.declared.Vec3.{Vec3}
 use Rattle.chain.specs.declared.Joints.{Joints}

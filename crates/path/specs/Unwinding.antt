@@ -5,7 +5,7 @@ use lib.Ieee as Ieee
 use lib.Ieee.{Float, binary64, ofBits}
 use lib.Ieee.Scale.{finite}
 use Rattle.float.specs.Helpers.{nought, sizeOf, roundHalfAway}
-use Rattle.float.specs.Root.{root}
+use Rattle.root.specs.Root.{root}
 use Rattle.geometry.specs.Vector.{plus, minus, times, over}
 use Rattle.chain.specs.declared.Joints.{Joints}
 use Rattle.chain.specs.declared.Travel.{Travel}

@@ -86,7 +86,7 @@ fn root_before(x: f64, y: f64) -> bool
     if far_apart(y, x) {
         return false;
     }
-    float::precedes(float::root(x), float::root(y))
+    float::precedes(root::root(x), root::root(y))
 }
 
 // Neither of two that tie.

@@ -57,7 +57,7 @@ pub fn rotary_square(two: bool, angles: Angles, previous: Angles) -> f64
 pub fn rotary_distance(two: bool, angles: Angles, previous: Angles) -> f64
     ensures { λ r. ⌜ r ≡ S.rotaryDistance two angles previous ⌝ }
 {
-    float::root(rotary_square(two, angles, previous))
+    root::root(rotary_square(two, angles, previous))
 }
 
 // More than 90 degrees apart.

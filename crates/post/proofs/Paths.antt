@@ -30,11 +30,11 @@ use Rattle.middle.specs.declared.Item.{Item}
 use Rattle.middle.specs.declared.Tolerances.{Tolerances}
 use Rattle.divide.specs.Checking.{divisionCheck}
 use Rattle.middle.specs.Testing.{midpoint, divides}
-use Rattle.machine.specs.Turning.{most}
+use Rattle.turn.specs.Turning.{most}
 use Rattle.machine.specs.Dividing.{division}
 use Rattle.divide.specs.Subdividing.{DivisionAnswer, Kept, AtPose, Cleared, Halved, divisionIn, jointsLeft, given, divisionWithin, unlessKept, subdividePath, clearing, afterSolving, solvedPath, solveAndDivide}
-use Rattle.machine.specs.Items.{spaceIn}
-use Rattle.machine.proofs.Stored.{joints-codec, items-length}
+use Rattle.turn.specs.Items.{spaceIn}
+use Rattle.turn.proofs.Stored.{joints-codec, items-length}
 use Rattle.job.specs.Cable.{jointSets}
 use Rattle.post.specs.Posting.{jointsOf, pathText}
 use Rattle.post.specs.Steps.{conclusion, pathLength}

@@ -4,7 +4,7 @@ use Prim.Native.Nat.{ℕ, min}
 use mathlib.Core.List.{List, _++_, map}
 use lib.ListN.{length, take, drop}
 use lib.Ieee.{Float}
-use Rattle.float.specs.Root.{root}
+use Rattle.root.specs.Root.{root}
 use Rattle.float.specs.declared.Comparison.{Comparison}
 use Rattle.float.specs.declared.Comparison.the-variants.{Less, Equal, Greater}
 use Rattle.trig.specs.declared.PairAnswer.{PairAnswer}

@@ -6,7 +6,7 @@ ghost use mathlib.Core.Path.{_≡_};
 ghost use lib.Ieee.Scale.{finite as isFinite};
 ghost use Rattle.float.specs.Helpers as S;
 ghost use Rattle.float.specs.TotalOrder as Total;
-ghost use Rattle.float.specs.Root as Root;
+ghost use Rattle.root.specs.Root as Root;
 ghost use Rattle.trig.specs.Waves as Waves;
 ghost use Rattle.probe.specs.Answers.{number, rootsOver, pairNumber, sineOver, cosineOver};
 use float::Comparison;
@@ -58,7 +58,7 @@ pub extern "C" fn probe_to_degrees(radians: f64) -> f64
 pub extern "C" fn probe_root(x: f64) -> f64
     ensures { λ r. ⌜ r ≡ Root.root x ⌝ }
 {
-    float::root(x)
+    root::root(x)
 }
 
 #[no_mangle]
@@ -102,7 +102,7 @@ pub extern "C" fn probe_roots(xs: &[f64], answers: &mut [f64])
     let n = shorter(xs.len(), answers.len());
     let mut i: usize = 0;
     while i < n {
-        answers[i] = float::root(xs[i]);
+        answers[i] = root::root(xs[i]);
         i += 1;
     }
 }

@@ -13,9 +13,9 @@ use Rattle.float.specs.Units.{U, Is}
 use Rattle.float.proofs.Rounding.{W, U-is, U-pos, W-pos, Rounded, add-rounded, sub-rounded, mul-rounded}
 use Rattle.float.proofs.Units.{held}
 use Rattle.float.proofs.Order.{neg-le}
-use Rattle.float.specs.Root.{root, rootUnits}
-use Rattle.float.proofs.RootCases.{above-of}
-use Rattle.float.proofs.RootOrder.{root-rooted}
+use Rattle.root.specs.Root.{root, rootUnits}
+use Rattle.root.proofs.RootCases.{above-of}
+use Rattle.root.proofs.RootOrder.{root-rooted}
 use Rattle.trig.specs.Kernel.{plusZero, one}
 use lib.Ieee.Scale.{finite}
 use Rattle.float.specs.Helpers.{negative}

@@ -7,7 +7,7 @@ use lib.Dec.{T}
 use lib.IntN.{pos}
 use lib.Ieee.{Float, nan, inf, fin, binary64, round, add, sub, mul, neg, ofBits, le, lt, eq, fits}
 use Rattle.float.proofs.Order.{neg-le, neg-neg}
-use Rattle.float.specs.Root.{root}
+use Rattle.root.specs.Root.{root}
 use Rattle.trig.specs.Kernel.{plusZero, one}
 use lib.Ieee.Scale.{finite}
 use Rattle.float.specs.Helpers.{negative}

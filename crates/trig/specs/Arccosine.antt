@@ -3,7 +3,7 @@ use mathlib.Core.Path.{_≡_}
 use mathlib.Core.Bool.{Bool, true, false, cond}
 use lib.Dec.{T}
 use lib.Ieee.{Float, binary64, add, sub, mul, neg, le}
-use Rattle.float.specs.Root.{root}
+use Rattle.root.specs.Root.{root}
 use Rattle.trig.specs.Kernel.{plusZero, one}
 use Rattle.float.specs.Helpers.{negative}
 use Rattle.trig.specs.Direction.{pi, Direction}

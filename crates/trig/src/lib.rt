@@ -98,7 +98,7 @@ pub fn arccosine(c: f64) -> Answer
     ensures right { λ a. ⌜ Arccosine.ArccosineAnswer c a ⌝ }
 {
     if cosine_range(c) {
-        let y = float::root((1.0 - c) * (1.0 + c));
+        let y = root::root((1.0 - c) * (1.0 + c));
         arctangent(y, c)
     } else {
         Answer::OutOfRange

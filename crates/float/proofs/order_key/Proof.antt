@@ -4,7 +4,7 @@ use lib.Ieee.Bits.{toBits-lt}
 use borrow.Author.Needs.{needs}
 use borrow.Author.Tests.{lt-ltb, le-ltb}
 use Rattle.float.proofs.Choices.{nan-of, number-of}
-use Rattle.float.proofs.RootNearby.{same-number}
+use Rattle.float.proofs.NotNan.{same-number}
 use Rattle.float.specs.TotalOrder.{orderKey}
 use Rattle.float.proofs.order_key.Statement.{statement}
 use Rattle.float.proofs.order_key.Tie as tie

@@ -1,5 +1,5 @@
 use borrow.Author.Needs.{needs}
-use Rattle.float.proofs.RootNearby.{same-number}
+use Rattle.float.proofs.NotNan.{same-number}
 use Rattle.float.proofs.SizeBits.{nan-size, no-nan-size, bits-size}
 use Rattle.float.proofs.size.Statement.{statement}
 use Rattle.float.proofs.size.Tie as tie

@@ -1,7 +1,7 @@
 use borrow.Author.Needs.{needs}
 use Rattle.divide.specs.Subdividing.{bothCheck}
 use native.Mathlib.Omega.{arith}
-use Rattle.machine.proofs.Space.{space-joints}
+use Rattle.turn.proofs.Space.{space-joints}
 use Rattle.divide.proofs.both.both_check.Statement.{statement}
 use Rattle.divide.proofs.both.both_check.Tie as tie
 

@@ -3,7 +3,7 @@ use Prim.Native.Nat.{_/_, _*_}
 use mathlib.Core.Path.{refl, sym, _∙_}
 use lib.ListN.{length, take}
 use Rattle.divide.proofs.Lengths.{check-lengths}
-use Rattle.machine.proofs.Space.{space-poses, space-joints}
+use Rattle.turn.proofs.Space.{space-poses, space-joints}
 use Rattle.divide.proofs.Subdivides.{found-refused, found-ended}
 use Rattle.divide.proofs.both.divide_found.Statement.{statement}
 use Rattle.divide.proofs.both.divide_found.Tie as tie

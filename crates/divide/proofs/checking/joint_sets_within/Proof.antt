@@ -4,7 +4,7 @@ use borrow.Author.Needs.{needs}
 use mathlib.Core.Path.{_∙_}
 use Rattle.lists.proofs.Tests.{isn't, is-after-all}
 use Rattle.chain.specs.Check.{jointsWithin}
-use Rattle.machine.specs.Items.{jointsFrom, jointsIn}
+use Rattle.turn.specs.Items.{jointsFrom, jointsIn}
 use Rattle.divide.proofs.Scanning.{Scanning, scanning-start, scanning-step, scanning-missed, scanning-all}
 use Rattle.divide.proofs.checking.joint_sets_within.Statement.{statement}
 use Rattle.divide.proofs.checking.joint_sets_within.Tie as tie

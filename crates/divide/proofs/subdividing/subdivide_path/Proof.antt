@@ -2,7 +2,7 @@ use borrow.Author.Needs.{needs}
 use mathlib.Core.Path.{refl, sym, _∙_}
 use lib.ListN.{length}
 use Rattle.divide.proofs.Lengths.{check-lengths}
-use Rattle.machine.proofs.Space.{space-poses, space-joints}
+use Rattle.turn.proofs.Space.{space-poses, space-joints}
 use Rattle.divide.proofs.Subdivides.{all-taken, subdivide-refused, subdivide-ended}
 use Rattle.divide.proofs.subdividing.subdivide_path.Statement.{statement}
 use Rattle.divide.proofs.subdividing.subdivide_path.Tie as tie

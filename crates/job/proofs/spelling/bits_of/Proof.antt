@@ -1,5 +1,5 @@
 use Rattle.job.specs.Spelling.{bitsOf}
-use Rattle.float.proofs.RootNearby.{same-number}
+use Rattle.float.proofs.NotNan.{same-number}
 use Rattle.job.proofs.spelling.bits_of.Statement.{statement}
 use Rattle.job.proofs.spelling.bits_of.Tie as tie
 

@@ -1,4 +1,4 @@
-use Rattle.machine.specs.Turning.{begun}
+use Rattle.turn.specs.Turning.{begun}
 use borrow.Author.Needs.{needs}
 use Rattle.machine.proofs.dividing.begin.Statement.{statement}
 use Rattle.machine.proofs.dividing.begin.Tie as tie

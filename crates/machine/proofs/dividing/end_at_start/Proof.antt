@@ -1,5 +1,5 @@
 use borrow.Author.Tests.{le-leb, lt-leb}
-use Rattle.machine.specs.Turning.{endAtStart}
+use Rattle.turn.specs.Turning.{endAtStart}
 use borrow.Author.Needs.{needs}
 use Rattle.machine.proofs.dividing.end_at_start.Statement.{statement}
 use Rattle.machine.proofs.dividing.end_at_start.Tie as tie

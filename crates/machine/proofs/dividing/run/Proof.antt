@@ -1,7 +1,7 @@
 use borrow.Author.Needs.{needs}
 use mathlib.Core.Path.{_∙_}
 use Rattle.machine.specs.Dividing.{held}
-use Rattle.machine.proofs.Running.{work}
+use Rattle.turn.proofs.Running.{work}
 use Rattle.machine.proofs.Runs.{Going, going-start, going-runs, going-on, going-less, going-many, going-full, going-end}
 use Rattle.machine.proofs.dividing.run.Statement.{statement}
 use Rattle.machine.proofs.dividing.run.Tie as tie

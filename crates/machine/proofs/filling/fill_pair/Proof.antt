@@ -1,7 +1,7 @@
 use borrow.Author.Tests.{lt-ltb, le-ltb}
 use borrow.Author.Needs.{needs}
 use Rattle.machine.specs.Filling.{filled}
-use Rattle.machine.proofs.Space.{space-so}
+use Rattle.turn.proofs.Space.{space-so}
 use Rattle.machine.proofs.filling.fill_pair.Statement.{statement}
 use Rattle.machine.proofs.filling.fill_pair.Tie as tie
 

@@ -1,0 +1,10 @@
+pub mod WholeRoot
+pub mod RootParts
+pub mod RootCases
+pub mod RootTests
+pub mod RootOrder
+pub mod RootUnique
+pub mod RootNearby
+pub mod RootGuess
+pub mod RootQuick
+pub mod RootGap

@@ -1,0 +1,5 @@
+pub mod Turned
+pub mod Stored
+pub mod Cached
+pub mod Running
+pub mod Space
