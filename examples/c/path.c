@@ -3,7 +3,7 @@
  * prints `refused`, its number and, where there is one, the pose.
  *
  * It prints three: document 01's example, a tilt on two tables that needs insertions, and a pose that is refused. Every buffer is
- * of the very size that is lent, so that a memory checker sees a word too far. C11, no libraries but this one. */
+ * of the very size that is lent to solve it, so that a memory checker sees a word too far. C11, no libraries but this one. */
 #include "maztubel.h"
 
 #include <inttypes.h>
@@ -73,26 +73,24 @@ static uint8_t *chain_bytes(const struct chain *chain) {
     return bytes;
 }
 
-/* How many whole turns are at most the size of some angle of a rotary. */
-static unsigned cable_number(const double *joints, size_t count, int rotary) {
-    double most = 0.0;
-    for (size_t i = 0; i < count; i++) {
-        double angle = joints[JOINTS * i + 3 + (size_t)rotary];
-        double size = angle < 0.0 ? -angle : angle;
-        most = size > most ? size : most;
-    }
-    return (unsigned)(most / 360.0);
-}
-
-static void print_path(const double *joints, size_t count, uint64_t inserted) {
-    printf("poses %zu inserted %" PRIu64 " turns %u %u\n", count, inserted, cable_number(joints, count, 0),
-           cable_number(joints, count, 1));
+static void print_path(const double *joints, size_t count, uint64_t inserted, const uint64_t *turns) {
+    printf("poses %zu inserted %" PRIu64 " turns %" PRIu64 " %" PRIu64 "\n", count, inserted, turns[0], turns[1]);
     for (size_t i = 0; i < count; i++) {
         printf("%zu", i);
         for (size_t k = 0; k < JOINTS; k++)
             printf(" %016" PRIX64, bits_of(joints[JOINTS * i + k]));
         putchar('\n');
     }
+}
+
+/* The cable numbers of both rotaries, or what one of them is refused with. */
+static uint32_t cable_numbers(const uint8_t *chain, size_t length, const double *joints, size_t count, uint64_t *turns) {
+    uint64_t at;
+    uint8_t letter;
+    uint32_t number = maztubel_cable_number(chain, length, joints, JOINTS * count, 0, &turns[0], &at, &letter);
+    if (number != MAZTUBEL_SERVED)
+        return number;
+    return maztubel_cable_number(chain, length, joints, JOINTS * count, 1, &turns[1], &at, &letter);
 }
 
 /* 23 to 26 always have a pose. 16 and 17 have one where the outputs were cleared: before its first pose a call keeps them. */
@@ -109,16 +107,19 @@ static void run(const struct chain *chain, const double *given, size_t count, do
     double *poses = buffer(POSE * count, sizeof *poses);
     double *out_poses = buffer(POSE * SPACE, sizeof *out_poses);
     double *out_joints = buffer(JOINTS * SPACE, sizeof *out_joints);
-    uint64_t inserted, at;
+    uint64_t inserted, at, turns[2];
     uint8_t letter;
     memcpy(poses, given, POSE * count * sizeof *poses);
     out_joints[0] = 1.0;
     uint32_t number = maztubel_solve_and_divide(bytes, chain_length(chain), poses, POSE * count, NULL, 0, cone, chord, axis,
                                                 out_poses, POSE * SPACE, out_joints, JOINTS * SPACE, &inserted, &at, &letter);
+    int cleared = number != MAZTUBEL_SERVED && out_joints[0] == 0.0;
     if (number == MAZTUBEL_SERVED)
-        print_path(out_joints, count + inserted, inserted);
+        number = cable_numbers(bytes, chain_length(chain), out_joints, count + inserted, turns);
+    if (number == MAZTUBEL_SERVED)
+        print_path(out_joints, count + inserted, inserted, turns);
     else
-        print_refusal(number, at, out_joints[0] == 0.0);
+        print_refusal(number, at, cleared);
     free(bytes);
     free(poses);
     free(out_poses);

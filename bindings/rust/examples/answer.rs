@@ -2,7 +2,7 @@
 //!
 //!     cargo run --example answer < ../../examples/jobs/example.job
 
-use maztubel::{Chain, Joints, Pose, Refusal, Start, Tolerances};
+use maztubel::{Job, Joints, Pose, Refusal, Start, cable_number, solve_and_divide_into};
 use std::fmt::Write;
 use std::io::{self, Read};
 
@@ -17,40 +17,28 @@ fn main() -> io::Result<()> {
 
 /// The lines of the answer.
 pub fn answer(bytes: &[u8]) -> String {
-    match job::read(bytes) {
-        Err(breach) => format!("refused {}\n", breach.number),
-        Ok(job) => match divided(bytes, &job) {
-            Err(refusal) => refused(refusal),
-            Ok((joints, inserted)) => lines(&joints, inserted),
-        },
-    }
+    answered(bytes).unwrap_or_else(refused)
 }
 
-fn divided(bytes: &[u8], job: &job::Job) -> Result<(Vec<Joints>, usize), Refusal> {
-    let numbers = job.numbers(bytes);
-    let poses: Vec<Pose> = numbers
-        .chunks_exact(6)
-        .map(|six| Pose {
-            tip: [six[0], six[1], six[2]],
-            axis: [six[3], six[4], six[5]],
-        })
-        .collect();
-    let chain = Chain::from_bytes(&bytes[job.chain.clone()])?;
-    let tolerances = Tolerances {
-        chord: job.chord,
-        axis: job.axis,
-    };
-    let (mut out_poses, mut joints) = ([Pose::default(); SPACE], vec![Joints::default(); SPACE]);
-    let inserted = maztubel::solve_and_divide_into(
-        &chain,
-        &poses,
+fn answered(bytes: &[u8]) -> Result<String, Refusal> {
+    let job = Job::read(bytes)?;
+    let (joints, inserted) = divided(&job)?;
+    let turns = |rotary| cable_number(&job.chain, &joints, rotary);
+    Ok(lines(&joints, inserted, [turns(0)?, turns(1)?]))
+}
+
+fn divided(job: &Job) -> Result<(Vec<Joints>, usize), Refusal> {
+    let (mut poses, mut joints) = ([Pose::default(); SPACE], vec![Joints::default(); SPACE]);
+    let inserted = solve_and_divide_into(
+        &job.chain,
+        &job.poses,
         Start::AtZero,
         job.cone,
-        tolerances,
-        &mut out_poses,
+        job.tolerances,
+        &mut poses,
         &mut joints,
     )?;
-    joints.truncate(poses.len() + inserted);
+    joints.truncate(job.poses.len() + inserted);
     Ok((joints, inserted))
 }
 
@@ -61,8 +49,7 @@ fn refused(refusal: Refusal) -> String {
     }
 }
 
-fn lines(joints: &[Joints], inserted: usize) -> String {
-    let [first, second] = [0, 1].map(|rotary| cable_number(joints, rotary));
+fn lines(joints: &[Joints], inserted: usize, [first, second]: [u64; 2]) -> String {
     let mut text = format!(
         "poses {} inserted {inserted} turns {first} {second}\n",
         joints.len()
@@ -75,12 +62,4 @@ fn lines(joints: &[Joints], inserted: usize) -> String {
         writeln!(text, "{index}{bits}").expect("a String takes every text");
     }
     text
-}
-
-/// How many whole turns are at most the size of some angle.
-fn cable_number(joints: &[Joints], rotary: usize) -> u64 {
-    let turns = joints
-        .iter()
-        .map(|joints| (joints.angles[rotary].abs() / 360.0) as u64);
-    turns.max().unwrap_or(0)
 }

@@ -44,6 +44,23 @@ pub const FIRST_POSITIVE: u32 = 1;
 /// `choose`'s choice of the first that is not positive.
 pub const FIRST_NEGATIVE: u32 = 2;
 
+/// What the trailer of a job says.
+#[derive(Clone, Copy, Debug, Default, PartialEq)]
+pub struct JobParts {
+    /// The offset of the chain, which has 104 bytes with one rotary and 176 with two.
+    pub chain_at: u64,
+    /// The offset of the poses.
+    pub poses_at: u64,
+    /// How many poses there are.
+    pub count: u64,
+    /// The cone in degrees.
+    pub cone: f64,
+    /// The chord tolerance in mm.
+    pub chord: f64,
+    /// The axis tolerance in degrees.
+    pub axis: f64,
+}
+
 /// `link_world` or `link_in_part`.
 pub type FrameOf = fn(&[u8], &[u8], &[u8], &[f64], &[u8], &mut [f64]) -> Told;
 
@@ -237,6 +254,34 @@ unsafe extern "C" {
         out_joints: *mut f64,
         out_joints_length: usize,
         inserted: &mut u64,
+        at: &mut u64,
+        letter: &mut u8,
+    ) -> u32;
+    fn maztubel_read_job(
+        job: *const u8,
+        job_length: usize,
+        chain_at: &mut u64,
+        poses_at: &mut u64,
+        count: &mut u64,
+        cone: &mut f64,
+        chord: &mut f64,
+        axis: &mut f64,
+        at: &mut u64,
+    ) -> u32;
+    fn maztubel_job_poses(
+        job: *const u8,
+        job_length: usize,
+        poses: *mut f64,
+        poses_length: usize,
+        at: &mut u64,
+    ) -> u32;
+    fn maztubel_cable_number(
+        chain: *const u8,
+        chain_length: usize,
+        joints: *const f64,
+        joints_length: usize,
+        rotary: u64,
+        number: &mut u64,
         at: &mut u64,
         letter: &mut u8,
     ) -> u32;
@@ -682,6 +727,79 @@ pub fn solve_and_divide(
             out_joints.as_mut_ptr(),
             out_joints.len(),
             &mut told.count,
+            &mut told.at,
+            &mut told.letter,
+        )
+    };
+    told
+}
+
+/// Where a job has its chain and its poses, and what its trailer says else. A refusal keeps the parts.
+///
+/// ```
+/// use maztubel::flat::{self, JobParts};
+/// let mut parts = JobParts { count: 9, ..JobParts::default() };
+/// assert_eq!(flat::read_job(&[0; 39], &mut parts).number, 29);
+/// assert_eq!(flat::read_job(&[0; 41], &mut parts).number, 3);
+/// assert_eq!(parts.count, 9);
+/// ```
+pub fn read_job(job: &[u8], parts: &mut JobParts) -> Told {
+    let mut told = Told::default();
+    told.number = unsafe {
+        maztubel_read_job(
+            job.as_ptr(),
+            job.len(),
+            &mut parts.chain_at,
+            &mut parts.poses_at,
+            &mut parts.count,
+            &mut parts.cone,
+            &mut parts.chord,
+            &mut parts.axis,
+            &mut told.at,
+        )
+    };
+    told
+}
+
+/// The poses of a job, 6 numbers each, with +0.0 behind them; the bits of a nan are not kept. A refusal keeps what is lent.
+///
+/// ```
+/// use maztubel::flat;
+/// assert_eq!(flat::job_poses(&[], &mut [9.0; 7]).number, 20);
+/// ```
+pub fn job_poses(job: &[u8], poses: &mut [f64]) -> Told {
+    let mut told = Told::default();
+    told.number = unsafe {
+        maztubel_job_poses(
+            job.as_ptr(),
+            job.len(),
+            poses.as_mut_ptr(),
+            poses.len(),
+            &mut told.at,
+        )
+    };
+    told
+}
+
+/// The cable number of the rotary with this index on a path of joint sets, 5 numbers each. A refusal keeps it.
+///
+/// ```
+/// use maztubel::flat;
+/// let mut number = 9;
+/// assert_eq!(flat::cable_number(&[0], &[0.0; 6], 0, &mut number).number, 20);
+/// assert_eq!(flat::cable_number(&[0], &[0.0; 5], 0, &mut number).number, 3);
+/// assert_eq!(number, 9);
+/// ```
+pub fn cable_number(chain: &[u8], joints: &[f64], rotary: u64, number: &mut u64) -> Told {
+    let mut told = Told::default();
+    told.number = unsafe {
+        maztubel_cable_number(
+            chain.as_ptr(),
+            chain.len(),
+            joints.as_ptr(),
+            joints.len(),
+            rotary,
+            number,
             &mut told.at,
             &mut told.letter,
         )

@@ -1,6 +1,6 @@
-//! The rotary kinematics of a five-axis postprocessor: joints for tool poses on a chain of one or two rotaries, and poses
-//! inserted until two tolerances hold. The work is done by the static library `maztubel`, whose every function is proved
-//! against its contract; this crate gives it Rust's types.
+//! The rotary kinematics of a five-axis postprocessor: joints for tool poses on a chain of one or two rotaries, poses inserted
+//! until two tolerances hold, and jobs from their bytes. The work is done by the static library `maztubel`, whose every function
+//! is proved against its contract; this crate gives it Rust's types.
 //!
 //! ```
 //! use maztubel::{Carrier, Chain, Pose, Rotary, Start, Tolerances, solve_and_divide};
@@ -37,6 +37,7 @@ mod chain;
 #[allow(unsafe_code, clippy::too_many_arguments)]
 pub mod flat;
 mod inverse;
+mod job;
 mod model;
 mod path;
 mod pose;
@@ -45,6 +46,7 @@ mod trig;
 
 pub use chain::{Carrier, Chain, Limits, Rotary, check_chain, forward};
 pub use inverse::{Choice, MOST_SOLUTIONS, choose, inverse};
+pub use job::{Job, cable_number, job_poses_into};
 pub use model::{Frame, Link, Machine, Mount, Solid, check_model, link_in_part, link_world};
 pub use path::{
     Divided, MOST_INSERTED, Start, Tolerances, solve_and_divide, solve_and_divide_into, solve_path,

@@ -4,6 +4,7 @@
 #[allow(dead_code)]
 mod answer;
 
+use maztubel::{Job, Place, Tolerances};
 use std::collections::{BTreeMap, BTreeSet};
 use std::fs;
 use std::path::{Path, PathBuf};
@@ -30,6 +31,57 @@ fn answers() {
     for (name, bytes) in jobs() {
         let expected = fs::read_to_string(folder().join(format!("{name}.expected"))).unwrap();
         assert_eq!(answer::answer(&bytes), expected, "{name}");
+    }
+}
+
+/// The bits of a number; every nan is one, as the library has it.
+fn one_nan(number: f64) -> u64 {
+    let number = if number.is_nan() { f64::NAN } else { number };
+    number.to_bits()
+}
+
+/// What `Job::read` says, where `tools/job` reads the same bytes.
+fn read_alike(name: &str, bytes: &[u8]) {
+    match (job::read(bytes), Job::read(bytes)) {
+        (Err(breach), Err(refusal)) => {
+            let at = match refusal.place {
+                Place::Offset(at) | Place::Rotary(at) => at as usize,
+                place => {
+                    assert_eq!(place, Place::Whole, "{name}");
+                    0
+                }
+            };
+            assert_eq!((breach.number, breach.at), (refusal.number(), at), "{name}");
+        }
+        (Ok(apart), Ok(job)) => {
+            let bits = |numbers: Vec<f64>| numbers.into_iter().map(one_nan).collect::<Vec<_>>();
+            let poses = job.poses.iter().flat_map(|p| [p.tip, p.axis].concat());
+            let Tolerances { chord, axis } = job.tolerances;
+            assert_eq!(bits(poses.collect()), bits(apart.numbers(bytes)), "{name}");
+            assert_eq!(
+                bits(vec![job.cone, chord, axis]),
+                bits(vec![apart.cone, apart.chord, apart.axis]),
+                "{name}"
+            );
+            assert_eq!(job.chain.bytes(), bytes[apart.chain], "{name}");
+        }
+        (apart, job) => panic!("{name}: {apart:?}, {job:?}"),
+    }
+}
+
+/// Each job, and each of the small ones with one byte changed.
+#[test]
+fn readings() {
+    for (name, mut bytes) in jobs() {
+        read_alike(&name, &bytes);
+        let changed = if bytes.len() > 1000 { 0 } else { bytes.len() };
+        for at in 0..changed {
+            for flip in [1, 2, 0x80, 0xFF] {
+                bytes[at] ^= flip;
+                read_alike(&format!("{name}, byte {at} with {flip}"), &bytes);
+                bytes[at] ^= flip;
+            }
+        }
     }
 }
 

@@ -4,7 +4,7 @@
 mod common;
 
 use common::*;
-use maztubel::flat::{self, Told};
+use maztubel::flat::{self, JobParts, Told};
 use std::slice;
 
 /// What stands before a call in an output.
@@ -238,6 +238,48 @@ fn of_solve_and_divide() {
     every_length(&read, &[90, 75], ask, &whole);
 }
 
+/// 28 keeps the poses too, which `every_length` asks of 20 alone.
+#[test]
+fn of_job_poses() {
+    for count in [0, 2] {
+        let job = job_bytes(&tables(), &arc(count));
+        let ask: Ask = &|_, w| {
+            let told = flat::job_poses(&job, w[0]);
+            assert!(told.number == 0 || w[0].iter().all(|number| *number == BEFORE));
+            assert_eq!(
+                told.number == 28,
+                w[0].len() % 6 == 0 && w[0].len() < 6 * count
+            );
+            told
+        };
+        every_length(&[], &[6 * count], ask, &|l| l[0].is_multiple_of(6));
+    }
+}
+
+/// The lent number goes with the answer as its count.
+#[test]
+fn of_cable_number() {
+    let chain = tables().bytes();
+    for (rotary, turns) in [(0, 1), (1, 2), (2, 0), (u64::MAX, 0)] {
+        let ask: Ask = &|r, _| {
+            let mut number = 9;
+            let told = flat::cable_number(&chain, r[0], rotary, &mut number);
+            let expected = match (told.number, r[0].len()) {
+                (0, 0) => 0,
+                (0, _) => turns,
+                _ => 9,
+            };
+            assert_eq!(number, expected);
+            Told {
+                count: number,
+                ..told
+            }
+        };
+        let joints = vec![1.0, 2.0, 3.0, -400.0, 720.0];
+        every_length(&[joints], &[], ask, &|l| l[0].is_multiple_of(5));
+    }
+}
+
 /// Bytes among guard bytes, and what a call says of them.
 fn of_bytes(bytes: &[u8], ask: &dyn Fn(&[u8]) -> Told) -> Told {
     let answers = [0u8, 1, 255].map(|guard| {
@@ -264,6 +306,93 @@ fn of_chains() {
             (if length == 176 { 0 } else { 29 }, 0),
             "length {length}"
         );
+    }
+}
+
+#[test]
+fn of_chains_with_a_cable() {
+    let long = [tables().bytes(), vec![0; 20]].concat();
+    for length in 0..=196 {
+        let told = of_bytes(&long[..length], &|chain| {
+            let mut number = 9;
+            let told = flat::cable_number(chain, &[0.0, 0.0, 0.0, 360.0, 0.0], 0, &mut number);
+            assert_eq!(number, if told.number == 0 { 1 } else { 9 });
+            told
+        });
+        let expected = if length == 176 { 0 } else { 29 };
+        assert_eq!((told.number, told.at), (expected, 0), "length {length}");
+    }
+}
+
+const PARTS: JobParts = JobParts {
+    chain_at: 9,
+    poses_at: 9,
+    count: 9,
+    cone: BEFORE,
+    chord: BEFORE,
+    axis: BEFORE,
+};
+
+/// What the reader of `tools/job` says: the number and its place, and the parts where there is a job.
+fn read_apart(bytes: &[u8]) -> (u32, u64, JobParts) {
+    match job::read(bytes) {
+        Err(breach) => (breach.number, breach.at as u64, PARTS),
+        Ok(job) => {
+            let parts = JobParts {
+                chain_at: job.chain.start as u64,
+                poses_at: job.poses.start as u64,
+                count: (job.poses.len() / job::POSE) as u64,
+                cone: job.cone,
+                chord: job.chord,
+                axis: job.axis,
+            };
+            (0, 0, parts)
+        }
+    }
+}
+
+/// Both calls on a job's bytes. The poses have space for those of every job here.
+fn job_read(bytes: &[u8]) {
+    let (number, at, expected) = read_apart(bytes);
+    let expected_told = Told {
+        number,
+        at,
+        ..Told::default()
+    };
+    let told = of_bytes(bytes, &|job| {
+        let mut parts = PARTS;
+        let told = flat::read_job(job, &mut parts);
+        assert_eq!(parts, expected, "length {}", job.len());
+        told
+    });
+    assert_eq!(told, expected_told, "length {}", bytes.len());
+    let told = of_bytes(bytes, &|job| {
+        let mut poses = [BEFORE; 18];
+        let told = flat::job_poses(job, &mut poses);
+        let kept = poses.iter().all(|number| *number == BEFORE);
+        assert_eq!(kept, told.number != 0);
+        told
+    });
+    assert_eq!(told, expected_told, "length {}", bytes.len());
+}
+
+/// A job's bytes cut at each end, and zero bytes: what stands last is taken for the trailer.
+#[test]
+fn of_jobs() {
+    let job = job_bytes(&tables(), &arc(2));
+    for length in 0..=job.len() {
+        job_read(&job[..length]);
+        job_read(&job[job.len() - length..]);
+        job_read(&vec![0; length]);
+    }
+    assert_eq!(read_apart(&job).2.count, 2);
+    for most in [65_535, 65_536, 65_537] {
+        job_read(&[vec![0; most - 40], job[job.len() - 40..].to_vec()].concat());
+        let apart = vec![0; most - job.len()];
+        let (front, trailer) = job.split_at(job.len() - 40);
+        let long = [front, &apart, trailer].concat();
+        job_read(&long);
+        assert_eq!(read_apart(&long).0, if most > 65_536 { 29 } else { 0 });
     }
 }
 

@@ -282,6 +282,120 @@ fn division() {
     refused(small.unwrap_err(), 28, Place::Inserted(17));
 }
 
+/// The offset of the trailer of a job on two tables with two poses.
+const TRAILER: usize = 176 + 96;
+
+fn job_refused(number: u32, place: Place, change: impl FnOnce(&mut Vec<u8>)) {
+    let mut bytes = job_bytes(&tables(), &arc(2));
+    change(&mut bytes);
+    refused(Job::read(&bytes).unwrap_err(), number, place);
+    let before = [pose([9.0; 3], [9.0; 3]); 3];
+    let mut poses = before;
+    let refusal = job_poses_into(&bytes, &mut poses).unwrap_err();
+    refused(refusal, number, place);
+    assert_eq!(poses, before);
+}
+
+#[test]
+fn jobs() {
+    let malformed = |offset: usize| Place::Offset(offset as u64);
+    job_refused(29, malformed(0), |b| b.truncate(39));
+    job_refused(29, malformed(0), |b| b.resize(65_537, 0));
+    job_refused(29, malformed(TRAILER), |b| b[TRAILER + 1] = 255);
+    job_refused(3, Place::Whole, |b| b[0] = 0);
+    job_refused(3, Place::Whole, |b| b[0] = 3);
+    job_refused(29, malformed(TRAILER), |b| {
+        b[140] = 2;
+        b[TRAILER] = 140;
+    });
+    job_refused(29, malformed(TRAILER + 4), |b| b[TRAILER + 8] = 3);
+    job_refused(29, malformed(TRAILER + 4), |b| b[TRAILER + 4] = 175);
+    job_refused(29, malformed(TRAILER + 4), |b| {
+        b[TRAILER + 4..TRAILER + 12].fill(255)
+    });
+    job_refused(29, malformed(TRAILER + 12), |b| b[TRAILER + 15] = 1);
+    job_refused(29, malformed(7), |b| b[7] = 1);
+    job_refused(4, Place::Rotary(0), |b| b[8] = b'a');
+    job_refused(4, Place::Rotary(1), |b| b[80] = b'D');
+    job_refused(29, malformed(81), |b| b[81] = 2);
+    job_refused(29, malformed(82), |b| b[82] = 2);
+    job_refused(29, malformed(15), |b| b[15] = 1);
+    job_refused(29, malformed(64), |b| b[71] = 0x80);
+    job_refused(29, malformed(72), |b| b[79] = 0x80);
+}
+
+/// The chain and the numbers of a job are for the calls to judge.
+#[test]
+fn what_a_job_may_say() {
+    let chain = changed(|c| {
+        c.rotaries[1].letter = b'A';
+        c.rotaries[0].limits = Some(Limits { min: 2.0, max: 1.0 });
+        c.spindle = [0.0; 3];
+    });
+    let poses = [pose([f64::INFINITY, -0.0, 1e300], [0.0; 3])];
+    let job = Job::read(&job_bytes(&chain, &poses)).unwrap();
+    assert_eq!((&job.chain, &job.poses[..]), (&chain, &poses[..]));
+    assert_eq!(
+        (job.cone, job.tolerances.chord, job.tolerances.axis),
+        (1.0, 0.25, 0.5)
+    );
+    let empty = Job::read(&job_bytes(&head_c(Z, None), &[])).unwrap();
+    assert_eq!((empty.chain, empty.poses), (head_c(Z, None), vec![]));
+}
+
+#[test]
+fn space_for_a_job() {
+    let (given, before) = (arc(2), [pose([9.0; 3], [9.0; 3]); 4]);
+    let bytes = job_bytes(&tables(), &given);
+    let mut poses = before;
+    for space in 0..2 {
+        let refusal = job_poses_into(&bytes, &mut poses[..space]).unwrap_err();
+        assert_eq!(refusal.reason, Reason::NoSpace);
+        assert_eq!(poses, before);
+    }
+    assert_eq!(job_poses_into(&bytes, &mut poses[..3]), Ok(2));
+    assert_eq!(poses[..2], given);
+    assert_eq!(poses[2..], [Pose::default(), before[3]]);
+    let longest = |count| Job::read(&job_bytes(&head_c(Z, None), &arc(count)));
+    assert_eq!(longest(1362).unwrap().poses, arc(1362));
+    refused(longest(1363).unwrap_err(), 29, Place::Offset(0));
+}
+
+fn cable_refused(number: u32, place: Place, chain: &Chain, joints: &[Joints]) {
+    for rotary in [0, 1, 2, usize::MAX] {
+        refused(
+            cable_number(chain, joints, rotary).unwrap_err(),
+            number,
+            place,
+        );
+    }
+}
+
+#[test]
+fn cables() {
+    let (zero, chain) = (Joints::default(), tables());
+    let at = |x, angle| Joints {
+        position: [x, 0.0, 0.0],
+        angles: [0.0, angle],
+    };
+    let spindle = changed(|c| c.spindle = [0.0; 3]);
+    let unnamed = changed(|c| c.rotaries[1].letter = b'a');
+    let far = changed(|c| c.rotaries[1].pivot[2] = -100_000.1);
+    cable_refused(3, Place::Whole, &changed(|c| c.rotaries.clear()), &[]);
+    cable_refused(4, Place::Rotary(1), &unnamed, &[at(f64::NAN, 0.0)]);
+    cable_refused(9, Place::Whole, &spindle, &[zero]);
+    cable_refused(16, Place::Whole, &far, &[zero, at(0.0, f64::NAN)]);
+    cable_refused(
+        16,
+        Place::Whole,
+        &chain,
+        &[at(1e8, 0.0), at(f64::INFINITY, 0.0)],
+    );
+    cable_refused(17, Place::Whole, &far, &[]);
+    cable_refused(17, Place::Whole, &chain, &[zero, at(-10_000_001.0, 0.0)]);
+    cable_refused(17, Place::Whole, &head_c(Z, None), &[at(0.0, 36_001.0)]);
+}
+
 fn machine(links: Vec<Link>) -> Machine {
     Machine {
         name: b"mill".to_vec(),

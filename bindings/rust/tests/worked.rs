@@ -233,3 +233,26 @@ fn forward_undoes_inverse() {
         assert!(near(reached.tip, target.tip) && near(reached.axis, target.axis));
     }
 }
+
+#[test]
+fn cable_numbers() {
+    let path = |angles: &[f64]| {
+        let at = |angle: &f64| Joints {
+            position: [0.0; 3],
+            angles: [*angle, 36_000.0],
+        };
+        angles.iter().map(at).collect::<Vec<_>>()
+    };
+    let first = |angles: &[f64]| cable_number(&tables(), &path(angles), 0).unwrap();
+    assert_eq!(first(&[]), 0);
+    assert_eq!(first(&[359.99999999999994, -359.99999999999994]), 0);
+    assert_eq!(first(&[0.0, 360.0, -0.0]), 1);
+    assert_eq!(first(&[-720.0, 719.9999999999999]), 2);
+    assert_eq!(first(&[-35_999.99999999999]), 99);
+    assert_eq!(first(&[36_000.0]), 100);
+    let wound = path(&[0.0]);
+    assert_eq!(cable_number(&tables(), &wound, 1), Ok(100));
+    assert_eq!(cable_number(&tables(), &wound, 2), Ok(0));
+    assert_eq!(cable_number(&head_c(Z, None), &wound, 1), Ok(0));
+    assert_eq!(cable_number(&tables(), &path(&[500.0; 110_000]), 0), Ok(1));
+}

@@ -60,3 +60,17 @@ pub fn arc(count: usize) -> Vec<Pose> {
     };
     (0..count).map(at).collect()
 }
+
+/// The bytes of a job: a chain, poses, the trailer.
+pub fn job_bytes(chain: &Chain, poses: &[Pose]) -> Vec<u8> {
+    let chain = chain.bytes();
+    let numbers = poses.iter().flat_map(|pose| [pose.tip, pose.axis].concat());
+    let words = [0, chain.len() as u32, poses.len() as u32, 0];
+    [
+        chain,
+        numbers.flat_map(f64::to_le_bytes).collect(),
+        words.map(u32::to_le_bytes).concat(),
+        [1.0, 0.25, 0.5].map(f64::to_le_bytes).concat(),
+    ]
+    .concat()
+}
