@@ -43,6 +43,8 @@ pub mod original;
 pub mod parts;
 #[cfg(original)]
 pub mod paths;
+#[cfg(original)]
+pub mod posted;
 pub mod probe;
 pub mod random;
 pub mod reading;
