@@ -23,6 +23,8 @@ pub mod from_libm;
 pub mod halvings;
 #[cfg(original)]
 pub mod insertions;
+#[cfg(all(test, original))]
+mod intended;
 #[cfg(original)]
 pub mod inverse_calls;
 #[cfg(original)]

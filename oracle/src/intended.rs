@@ -1,0 +1,254 @@
+//! The intended differences of docs/DIFFERENCES.md, each at its smallest input: what the untouched Rust serves there, and the number
+//! that the export refuses it with. Of a size the smallest input is the next double above its limit, at which both still agree.
+//! The machine is that of document 01's example, a head C about the spindle, with its pivot and all joints at zero.
+
+use crate::calls;
+use crate::cases::{Case, Entry, FRAME, POSE};
+use crate::chains::Chain;
+use crate::divided;
+use crate::divisions::{Division, From};
+use crate::inverse_calls;
+use crate::inverse_cases;
+use crate::maztubel;
+use crate::paths::{JOINTS, Path};
+use crate::reference::bare;
+use crate::rust::untouched;
+use crate::solved::{self, MOST_POSES};
+
+/// The limits of size of demand 2: of a tip, a pivot and a tool, of a position, and of an angle.
+const LENGTH: f64 = 100_000.0;
+const POSITION: f64 = 10_000_000.0;
+const ANGLE: f64 = 36_000.0;
+
+/// A tip of zero and the axis of the spindle.
+const AT_REST: [f64; POSE] = [0.0, 0.0, 0.0, 0.0, 0.0, 1.0];
+
+/// Served by both, as by the Rust alone with a number of the export.
+const BOTH: (bool, u32) = (true, 0);
+
+fn rust_alone(number: u32) -> (bool, u32) {
+    (true, number)
+}
+
+fn head(pivot: f64) -> Chain {
+    let mut chain = Chain {
+        count: 1,
+        spindle: [0.0, 0.0, 1.0],
+        ..Chain::default()
+    };
+    let rotary = &mut chain.rotaries[0];
+    (rotary.letter, rotary.carrier) = (b'C', 1);
+    (rotary.axis, rotary.pivot[0]) = ([0.0, 0.0, 1.0], pivot);
+    chain
+}
+
+/// Whether the Rust serves it, and the number of the export.
+fn forward(pivot: f64, joints: [f64; JOINTS], tool: f64) -> (bool, u32) {
+    let chain = head(pivot);
+    let case = Case {
+        chain: chain.bytes(),
+        joints: joints.to_vec(),
+        tool_length: tool,
+        room: POSE,
+        ..Case::default()
+    };
+    let rust = untouched::forward(&untouched::kinematics(&bare(&chain)), &joints, tool);
+    (rust.is_ok(), calls::ask(Entry::Forward, &case).number)
+}
+
+fn frame(pivot: f64, joints: [f64; JOINTS]) -> (bool, u32) {
+    let chain = head(pivot);
+    let case = Case {
+        name: b"n".to_vec(),
+        chain: chain.bytes(),
+        joints: joints.to_vec(),
+        carrier: b"head".to_vec(),
+        room: FRAME,
+        ..Case::default()
+    };
+    let rust = untouched::link_world(&untouched::kinematics(&bare(&chain)), &joints, "head");
+    let numbers =
+        [Entry::LinkWorld, Entry::LinkInPart].map(|entry| calls::ask(entry, &case).number);
+    assert_eq!(numbers[0], numbers[1]);
+    (rust.is_ok(), numbers[0])
+}
+
+fn inverse(pivot: f64, tip: f64, tool: f64, hint: [f64; 2]) -> (bool, u32) {
+    let chain = head(pivot);
+    let pose = [&[tip], &AT_REST[1..]].concat();
+    let case = inverse_cases::Case {
+        chain: chain.bytes(),
+        pose: pose.clone(),
+        tool_length: tool,
+        hint: hint.to_vec(),
+        choice: 0,
+        missing: 0,
+    };
+    let rust = untouched::kinematics(&bare(&chain));
+    let served = untouched::inverse(&rust, &pose, tool, hint).is_ok();
+    assert_eq!(
+        untouched::choose(&rust, &pose, tool, 0, hint).is_ok(),
+        served
+    );
+    let numbers = inverse_cases::Entry::ALL.map(|entry| inverse_calls::ask(entry, &case).number);
+    assert_eq!(numbers[0], numbers[1]);
+    (served, numbers[0])
+}
+
+fn solve(chain: Chain, poses: Vec<f64>, start: &[f64]) -> (bool, u32) {
+    let path = Path {
+        chain: chain.bytes(),
+        room: poses.len() / POSE * JOINTS,
+        poses,
+        start: start.to_vec(),
+        cone: 1.0,
+    };
+    let rust = untouched::solve_path(&untouched::setup(&chain), &path.poses, &path.start, 1.0);
+    (rust.is_ok(), solved::ask(&path).number)
+}
+
+fn divide(pivot: f64, poses: Vec<f64>, joints: Vec<f64>) -> (bool, u32) {
+    let chain = head(pivot);
+    let rust = untouched::subdivide_path(&untouched::setup(&chain), &poses, &joints, [0.5; 2]);
+    let rooms = [poses.len(), joints.len()];
+    let division = Division {
+        chain: chain.bytes(),
+        poses,
+        from: From::Joints(joints),
+        tolerances: [0.5; 2],
+    };
+    (rust.is_ok(), divided::ask(&division, rooms).told.number)
+}
+
+/// One joint set that is zero but for one number.
+fn only<const N: usize>(place: usize, number: f64) -> [f64; N] {
+    let mut numbers = [0.0; N];
+    numbers[place] = number;
+    numbers
+}
+
+fn at_tip(tip: f64) -> Vec<f64> {
+    [&[tip], &AT_REST[1..]].concat()
+}
+
+#[test]
+fn four_functions() {
+    assert_eq!(maztubel::sine(800.0).map(|_| 0), Ok(0));
+    assert_eq!(maztubel::sine(800f64.next_up()), Err(17));
+    assert_eq!(maztubel::cosine(800f64.next_up()), Err(17));
+    assert!(800f64.next_up().sin().is_finite());
+    assert_eq!(maztubel::arctangent(f64::INFINITY, 1.0), Err(17));
+    assert!(f64::INFINITY.atan2(1.0).is_finite());
+    assert_eq!(maztubel::arccosine(1f64.next_up()), Err(17));
+    assert!(1f64.next_up().acos().is_nan());
+}
+
+#[test]
+fn forwards() {
+    let rest = [0.0; JOINTS];
+    assert_eq!(forward(LENGTH, rest, LENGTH), BOTH);
+    assert_eq!(forward(LENGTH.next_up(), rest, 0.0), rust_alone(17));
+    assert_eq!(forward(0.0, rest, LENGTH.next_up()), rust_alone(17));
+    for (place, most) in [(0, POSITION), (3, ANGLE), (4, ANGLE)] {
+        assert_eq!(forward(0.0, only(place, most), 0.0), BOTH);
+        assert_eq!(
+            forward(0.0, only(place, most.next_up()), 0.0),
+            rust_alone(17)
+        );
+    }
+    assert_eq!(forward(0.0, only(4, f64::NAN), 0.0), rust_alone(16));
+}
+
+#[test]
+fn frames() {
+    let rest = [0.0; JOINTS];
+    assert_eq!(frame(LENGTH, rest), BOTH);
+    assert_eq!(frame(LENGTH.next_up(), rest), rust_alone(17));
+    for (place, most) in [(0, POSITION), (3, ANGLE), (4, ANGLE)] {
+        assert_eq!(frame(0.0, only(place, most)), BOTH);
+        assert_eq!(frame(0.0, only(place, most.next_up())), rust_alone(17));
+    }
+    assert_eq!(frame(0.0, only(4, f64::NAN)), rust_alone(16));
+}
+
+#[test]
+fn inverses() {
+    let rest = [0.0; 2];
+    assert_eq!(inverse(LENGTH, LENGTH, LENGTH, rest), BOTH);
+    assert_eq!(inverse(LENGTH.next_up(), 0.0, 0.0, rest), rust_alone(17));
+    assert_eq!(inverse(0.0, LENGTH.next_up(), 0.0, rest), rust_alone(17));
+    assert_eq!(inverse(0.0, 0.0, LENGTH.next_up(), rest), rust_alone(17));
+    assert_eq!(inverse(0.0, 0.0, 0.0, only(1, ANGLE)), BOTH);
+    assert_eq!(
+        inverse(0.0, 0.0, 0.0, only(1, ANGLE.next_up())),
+        rust_alone(17)
+    );
+    assert_eq!(inverse(0.0, 0.0, 0.0, only(1, f64::NAN)), rust_alone(16));
+}
+
+#[test]
+fn paths() {
+    let start = |place, number| -> [f64; JOINTS] { only(place, number) };
+    assert_eq!(
+        solve(head(LENGTH), at_tip(LENGTH), &start(0, POSITION)),
+        BOTH
+    );
+    assert_eq!(
+        solve(head(LENGTH.next_up()), at_tip(0.0), &[]),
+        rust_alone(17)
+    );
+    assert_eq!(
+        solve(head(0.0), at_tip(LENGTH.next_up()), &[]),
+        rust_alone(17)
+    );
+    for (place, most) in [(0, POSITION), (3, ANGLE), (4, ANGLE)] {
+        assert_eq!(solve(head(0.0), at_tip(0.0), &start(place, most)), BOTH);
+        let more = start(place, most.next_up());
+        assert_eq!(solve(head(0.0), at_tip(0.0), &more), rust_alone(17));
+    }
+    assert_eq!(solve(head(0.0), AT_REST.repeat(MOST_POSES), &[]), BOTH);
+    assert_eq!(
+        solve(head(0.0), AT_REST.repeat(MOST_POSES + 1), &[]),
+        rust_alone(17)
+    );
+}
+
+/// A head A about x at 36,000 degrees, and a tool that leans a little further.
+#[test]
+fn a_long_winding() {
+    let mut chain = head(0.0);
+    (chain.rotaries[0].letter, chain.rotaries[0].axis) = (b'A', [1.0, 0.0, 0.0]);
+    let start: [f64; JOINTS] = only(3, ANGLE);
+    let lean = |y: f64| [0.0, 0.0, 0.0, 0.0, y, 1.0].to_vec();
+    assert_eq!(solve(chain, lean(1e-3), &start), BOTH);
+    assert_eq!(solve(chain, lean(-1e-3), &start), rust_alone(26));
+}
+
+#[test]
+fn divisions() {
+    let rest = vec![0.0; JOINTS];
+    assert_eq!(divide(LENGTH, at_tip(LENGTH), rest.clone()), BOTH);
+    assert_eq!(
+        divide(LENGTH.next_up(), at_tip(0.0), rest.clone()),
+        rust_alone(17)
+    );
+    assert_eq!(
+        divide(0.0, at_tip(LENGTH.next_up()), rest.clone()),
+        rust_alone(17)
+    );
+    for (place, most) in [(0, POSITION), (3, ANGLE), (4, ANGLE)] {
+        let set = |number| -> [f64; JOINTS] { only(place, number) };
+        assert_eq!(divide(0.0, at_tip(0.0), set(most).to_vec()), BOTH);
+        let more = set(most.next_up()).to_vec();
+        assert_eq!(divide(0.0, at_tip(0.0), more), rust_alone(17));
+    }
+    let axis = [&AT_REST[..3], &[f64::NAN, 0.0, 1.0]].concat();
+    assert_eq!(divide(0.0, axis, rest), rust_alone(16));
+    let unused: [f64; JOINTS] = only(4, f64::NAN);
+    assert_eq!(divide(0.0, at_tip(0.0), unused.to_vec()), rust_alone(16));
+    let many = |count| (AT_REST.repeat(count), vec![0.0; count * JOINTS]);
+    let (poses, joints) = many(MOST_POSES);
+    assert_eq!(divide(0.0, poses, joints), BOTH);
+    let (poses, joints) = many(MOST_POSES + 1);
+    assert_eq!(divide(0.0, poses, joints), rust_alone(17));
+}
