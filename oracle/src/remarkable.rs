@@ -185,6 +185,7 @@ fn tolerances(halvings: &Halvings) -> [f64; 2] {
 mod tests {
     use super::*;
     use crate::divided::{Verdict, expected};
+    use crate::maztubel;
 
     fn inserted(division: &Division) -> Option<usize> {
         match expected(division) {
@@ -206,5 +207,18 @@ mod tests {
             assert_eq!(inserted(&turned(degrees)), Some(0));
         }
         assert!(inserted(&turned(90.0)) > Some(0));
+    }
+
+    /// The spherical mean takes sines up to 1e-12 for those of equal or opposite axes. No sine of an arccosine is near it, so that
+    /// another threshold, from here to there, shows in no division.
+    #[test]
+    fn no_sine_lies_about_the_mean_s_threshold() {
+        let sine = |cosine: f64| {
+            let theta = maztubel::arccosine(cosine).expect("a cosine");
+            maztubel::sine(theta).expect("an angle up to pi")
+        };
+        assert!([1.0, -1.0].iter().all(|&cosine| sine(cosine) <= 1.3e-16));
+        let nearest = [1f64.next_down(), (-1f64).next_up()];
+        assert!(nearest.iter().all(|&cosine| sine(cosine) >= 1.4e-8));
     }
 }
