@@ -102,7 +102,7 @@ pub extern "C" fn maztubel_arctangents(ys: &[f64], xs: &[f64], answers: &mut [f6
     }
     let mut i: usize = 0;
     while i < n {
-        if refused(trig::arctangent(ys[i], xs[i])) {
+        if pair_refused(ys[i], xs[i]) {
             return refusal::TOO_LARGE;
         }
         i += 1;
@@ -148,7 +148,7 @@ fn of_each(f: Function, xs: &[f64], answers: &mut [f64]) -> u32
     }
     let mut i: usize = 0;
     while i < n {
-        if refused(of_one(f, xs[i])) {
+        if refused(f, xs[i]) {
             return refusal::TOO_LARGE;
         }
         i += 1;
@@ -174,13 +174,24 @@ fn put(a: Answer, answer: &mut f64) -> u32
     }
 }
 
-fn refused(a: Answer) -> bool
-    ensures { λ r. ⌜ r ≡ refuses a ⌝ }
+// Whether an argument is out of range, which takes no evaluation.
+fn refused(f: Function, x: f64) -> bool
+    ensures { λ r. ⌜ r ≡ refuses (answerOf f x) ⌝ }
 {
-    match a {
-        Answer::Value(_) => false,
-        Answer::OutOfRange => true,
+    match f {
+        Function::Sine => !trig::served(x),
+        Function::Cosine => !trig::served(x),
+        Function::Arccosine => !trig::cosine_range(x),
     }
+}
+
+fn pair_refused(y: f64, x: f64) -> bool
+    ensures { λ r. ⌜ r ≡ refuses (Arctangent.arctangentOf y x) ⌝ }
+{
+    if float::finite(y) {
+        return !float::finite(x);
+    }
+    true
 }
 
 fn written_over(a: Answer, before: f64) -> f64

@@ -13,8 +13,8 @@ mod waves;
 use crate::bearing::angle;
 use crate::waves::cosine_value;
 use crate::waves::pair_value;
-use crate::waves::served;
 use crate::waves::sine_value;
+pub use waves::served;
 
 pub enum Answer {
     Value(f64),
@@ -85,8 +85,8 @@ pub fn arctangent(y: f64, x: f64) -> Answer
     Answer::Value(r)
 }
 
-// Whether c is from -1 to 1.
-fn cosine_range(c: f64) -> bool
+// Whether c is from -1 to 1, and so has an arccosine.
+pub fn cosine_range(c: f64) -> bool
     ensures { λ b. ⌜ b ≡ Arccosine.cosineRange c ⌝ }
 {
     if c <= 1.0 { -1.0 <= c } else { false }

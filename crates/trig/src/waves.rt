@@ -10,7 +10,7 @@ use crate::reduction::turned;
 use crate::series::cosine_kernel;
 use crate::series::sine_kernel;
 
-// |x| <= 800.
+// Whether |x| <= 800, and x so has a sine and a cosine.
 pub fn served(x: f64) -> bool
     ensures { λ b. ⌜ b ≡ Waves.served x ⌝ }
 {

@@ -38,23 +38,23 @@ returns-2 c = (number-lengths _ _ (rw (eq-eqb _ _ (c .before .if1 .left), ne-eqb
 
 returns-3 : tie.Need-returns-3 Inv-loop μ-loop Inv-loop2 μ-loop2
 returns-3 c =
-    let turn = c .before .before .before .before .before in
+    let turn = c .before .before .before .before in
     let start = turn .before .before .before .before .before .before .before in
     let e = turn .before .before .before .if1 .left in
     let h : turn .before .loop .i < length (start .args .ys .now) = omega arith in
     let told = getD-paired arctangentOf (start .args .ys .now) (start .args .xs .now) (turn .before .loop .i) nan nan OutOfRange e h in (
       number-refused _ _ (rw (eq-eqb _ _ e, eq-eqb _ _ (turn .before .before .if2 .left))) (length-paired arctangentOf _ _ e ∙ e) OutOfRange (turn .loop-test .taken) (turn .before .loop .inv)
-          (rw (told, ← c .before .before .arctangent .ensures .0, ← c .before .refused .ensures) (c .if3 .taken)),
+          (rw (told, ← c .before .pair-refused .ensures) (c .if3 .taken)),
       (refl, right (turn .before .before .before .before .before)),
     )
 
 loop-again : tie.Need-loop-again Inv-loop μ-loop Inv-loop2 μ-loop2
 loop-again c =
-    let turn = c .before .before .before .before .before in
+    let turn = c .before .before .before .before in
     let start = turn .before .before .before .before .before .before .before in
     let h : turn .before .loop .i < length (start .args .ys .now) = omega arith in
     let told = getD-paired arctangentOf (start .args .ys .now) (start .args .xs .now) (turn .before .loop .i) nan nan OutOfRange (turn .before .before .before .if1 .left) h in
-    searching-step OutOfRange (turn .loop-test .taken) (turn .before .loop .inv) (rw (told, ← c .before .before .arctangent .ensures .0, ← c .before .refused .ensures) (c .if3 .left))
+    searching-step OutOfRange (turn .loop-test .taken) (turn .before .loop .inv) (rw (told, ← c .before .pair-refused .ensures) (c .if3 .left))
 
 loop2-again : tie.Need-loop2-again Inv-loop μ-loop Inv-loop2 μ-loop2
 loop2-again c =
@@ -62,7 +62,7 @@ loop2-again c =
     let start = turn .before .before .before .before .before .before .before .before .before in
     let h : turn .before .loop2 .k < length (start .args .ys .now) = omega arith in
     let told = getD-paired arctangentOf (start .args .ys .now) (start .args .xs .now) (turn .before .loop2 .k) nan nan OutOfRange (turn .before .before .before .before .before .if1 .left) h in
-    writing-step OutOfRange nan (turn .loop2-test .taken) (turn .before .loop2 .inv) (rw (told, ← c .before .before .arctangent2 .ensures .0) (c .written-over .ensures))
+    writing-step OutOfRange nan (turn .loop2-test .taken) (turn .before .loop2 .inv) (rw (told, ← c .before .before .arctangent .ensures .0) (c .written-over .ensures))
 
 returns-4 : tie.Need-returns-4 Inv-loop μ-loop Inv-loop2 μ-loop2
 returns-4 c =
@@ -87,7 +87,6 @@ maztubel-arctangents-spec =
     (λ c. omega arith)
     (λ c. omega arith)
     (λ c. omega arith)
-    (λ c κs. tt)
     (λ c κs. tt)
     returns-3
     (λ c. omega arith)

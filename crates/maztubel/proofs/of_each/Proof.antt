@@ -30,27 +30,27 @@ returns c = (number-lengths _ _ (ne-eqb _ _ (c .if1 .taken)), refl)
 
 returns-2 : tie.Need-returns-2 Inv-loop μ-loop Inv-loop2 μ-loop2
 returns-2 c =
-    let turn = c .before .before .before .before in
+    let turn = c .before .before .before in
     let start = turn .before .before .before .before .before in
     let told = told-map (answerOf (start .args .f)) (start .args .xs .now) (turn .before .loop .i) nan OutOfRange (turn .loop-test .taken) in (
       number-refused _ _ (eq-eqb _ _ (turn .before .before .if1 .left)) (simp length-map) OutOfRange (turn .loop-test .taken) (turn .before .loop .inv)
-          (rw (← told, ← c .before .before .of-one .ensures, ← c .before .refused .ensures) (c .if2 .taken)),
+          (rw (← told, ← c .before .refused .ensures) (c .if2 .taken)),
       refl,
     )
 
 loop-again : tie.Need-loop-again Inv-loop μ-loop Inv-loop2 μ-loop2
 loop-again c =
-    let turn = c .before .before .before .before in
+    let turn = c .before .before .before in
     let start = turn .before .before .before .before .before in
     let told = told-map (answerOf (start .args .f)) (start .args .xs .now) (turn .before .loop .i) nan OutOfRange (turn .loop-test .taken) in
-    searching-step OutOfRange (turn .loop-test .taken) (turn .before .loop .inv) (rw (← told, ← c .before .before .of-one .ensures, ← c .before .refused .ensures) (c .if2 .left))
+    searching-step OutOfRange (turn .loop-test .taken) (turn .before .loop .inv) (rw (← told, ← c .before .refused .ensures) (c .if2 .left))
 
 loop2-again : tie.Need-loop2-again Inv-loop μ-loop Inv-loop2 μ-loop2
 loop2-again c =
     let turn = c .before .before .before .before in
     let start = turn .before .before .before .before .before .before .before in
     let told = told-map (answerOf (start .args .f)) (start .args .xs .now) (turn .before .loop2 .k) nan OutOfRange (turn .loop2-test .taken) in
-    writing-step OutOfRange nan (turn .loop2-test .taken) (turn .before .loop2 .inv) (rw (← told, ← c .before .before .of-one2 .ensures) (c .written-over .ensures))
+    writing-step OutOfRange nan (turn .loop2-test .taken) (turn .before .loop2 .inv) (rw (← told, ← c .before .before .of-one .ensures) (c .written-over .ensures))
 
 returns-3 : tie.Need-returns-3 Inv-loop μ-loop Inv-loop2 μ-loop2
 returns-3 c =
@@ -69,7 +69,6 @@ of-each-spec =
     (λ c. searching-start (simp length-map (omega arith)))
     (λ c. omega arith)
     (λ c. omega arith)
-    (λ c κs. tt)
     (λ c κs. tt)
     returns-2
     (λ c. omega arith)
