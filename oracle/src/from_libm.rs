@@ -7,6 +7,7 @@
 use crate::chains::Chain;
 use crate::paths::{JOINTS, POSE, Path};
 use crate::rust::untouched;
+use crate::solved::{Answer, cause, pose_in};
 
 /// Pivots and tips up to this many mm are those of a usual machine.
 pub(crate) const USUAL_LENGTH: f64 = 1000.0;
@@ -17,7 +18,8 @@ pub(crate) const OFF_BORDER: f64 = 1e-6;
 
 #[derive(Default)]
 pub struct FromLibm {
-    refused: u64,
+    paths: u64,
+    other_number: u64,
     elsewhere: u64,
     every: Measured,
     usual: Measured,
@@ -32,13 +34,31 @@ struct Measured {
 }
 
 impl FromLibm {
-    /// Of a path that is served.
-    pub fn see(&mut self, path: &Path, chain: &Chain, joints: &[f64]) {
-        let rust = untouched::setup(chain);
-        let Ok(libms) = untouched::solve_path(&rust, &path.poses, &path.start, path.cone) else {
-            self.refused += 1;
+    /// Of a path that comes to its first pose. What the Rust has no number for (17 and 26) is left out.
+    pub fn see(&mut self, path: &Path, chain: &Chain, answer: &Answer) {
+        if answer
+            .as_ref()
+            .is_err_and(|refusal| matches!(refusal.number, 17 | 26))
+        {
             return;
-        };
+        }
+        self.paths += 1;
+        let rust = untouched::setup(chain);
+        let libms = untouched::solve_path(&rust, &path.poses, &path.start, path.cone);
+        match (answer, libms) {
+            (Ok(joints), Ok(libms)) => self.measure(path, chain, joints, &libms),
+            (Err(refusal), Err(words)) => {
+                let pose = pose_in(&words);
+                let told = (refusal.number, refusal.letter, refusal.at as usize);
+                let (number, letter) = cause(&words, pose);
+                self.other_number += u64::from(told != (number, letter, pose));
+            }
+            _ => self.other_number += 1,
+        }
+    }
+
+    fn measure(&mut self, path: &Path, chain: &Chain, joints: &[f64], libms: &[f64]) {
+        let rust = untouched::setup(chain);
         let clearance = |pose: &[f64]| rust.kinematics.clearance(untouched::tool_pose(pose).axis);
         let off_border = |pose: &[f64]| {
             clearance(pose).is_some_and(|degrees| (degrees - path.cone).abs() >= OFF_BORDER)
@@ -60,7 +80,8 @@ impl FromLibm {
     }
 
     pub fn add(&mut self, more: FromLibm) {
-        self.refused += more.refused;
+        self.paths += more.paths;
+        self.other_number += more.other_number;
         self.elsewhere += more.elsewhere;
         self.every.see(&more.every);
         self.usual.see(&more.usual);
@@ -68,10 +89,13 @@ impl FromLibm {
 
     pub fn print(&self) {
         let FromLibm {
-            refused, elsewhere, ..
+            paths,
+            other_number,
+            elsewhere,
+            ..
         } = self;
         println!(
-            "with libm {refused} of the served paths are refused, and {elsewhere} poses have an angle a degree or more away"
+            "with libm, of {paths} paths: {other_number} have another number or pose, and {elsewhere} poses an angle a degree or more away"
         );
         for (words, most) in [("the other", &self.every), ("the usual", &self.usual)] {
             let Measured {

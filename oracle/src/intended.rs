@@ -252,3 +252,65 @@ fn divisions() {
     let (poses, joints) = many(MOST_POSES + 1);
     assert_eq!(divide(0.0, poses, joints), rust_alone(17));
 }
+
+/// The refusals that the Rust has no input for.
+#[test]
+fn what_is_lent() {
+    let chain = head(0.0).bytes();
+    let forward = |chain: &[u8], joints: usize| {
+        let case = Case {
+            chain: chain.to_vec(),
+            joints: vec![0.0; joints],
+            room: POSE,
+            ..Case::default()
+        };
+        calls::ask(Entry::Forward, &case).number
+    };
+    assert_eq!(forward(&chain, JOINTS), 0);
+    assert_eq!(forward(&chain[..103], JOINTS), 29);
+    assert_eq!(forward(&chain, JOINTS - 1), 20);
+    let inverse = |entry, choice, missing| {
+        let case = inverse_cases::Case {
+            chain: chain.clone(),
+            pose: AT_REST.to_vec(),
+            tool_length: 0.0,
+            hint: vec![0.0; 2],
+            choice,
+            missing,
+        };
+        inverse_calls::ask(entry, &case).number
+    };
+    assert_eq!(inverse(inverse_cases::Entry::Inverse, 0, 1), 20);
+    assert_eq!(inverse(inverse_cases::Entry::Choose, 3, 0), 20);
+    let solve = |chain: &[u8], poses: usize, start: usize, room: usize| {
+        let path = Path {
+            chain: chain.to_vec(),
+            poses: AT_REST[..poses].to_vec(),
+            start: vec![0.0; start],
+            cone: 1.0,
+            room,
+        };
+        solved::ask(&path).number
+    };
+    assert_eq!(solve(&chain, POSE, 0, JOINTS), 0);
+    assert_eq!(solve(&chain, POSE, 0, 0), 28);
+    assert_eq!(solve(&chain[..103], POSE, 0, JOINTS), 29);
+    assert_eq!(solve(&chain, POSE - 1, 0, JOINTS), 20);
+    assert_eq!(solve(&chain, POSE, JOINTS - 1, JOINTS), 20);
+}
+
+/// A head that turns by 90 degrees with its tip held still needs a pose between.
+#[test]
+fn no_space_for_the_next_pose() {
+    let division = Division {
+        chain: head(10.0).bytes(),
+        poses: AT_REST.repeat(2),
+        from: From::Joints([&[0.0; JOINTS][..], &only::<JOINTS>(3, 90.0)].concat()),
+        tolerances: [0.5; 2],
+    };
+    let told = divided::ask(&division, [2 * POSE, 2 * JOINTS]);
+    assert_eq!((told.told.number, told.inserted[1]), (28, 0));
+    let told = divided::ask(&division, [64 * POSE, 64 * JOINTS]);
+    assert_eq!(told.told.number, 0);
+    assert!(told.inserted[1] > 0);
+}

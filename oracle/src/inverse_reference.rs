@@ -47,18 +47,19 @@ pub fn expected(entry: Entry, case: &Case) -> Answer {
     }
 }
 
-/// The untouched Rust's answer to a call that must be served: its joint sets, none where it refuses.
-pub fn with_libm(entry: Entry, case: &Case) -> Sets {
+/// The untouched Rust's answer to a call that comes to its solving: its joint sets, or the refusal's number.
+pub fn with_libm(entry: Entry, case: &Case) -> Result<Sets, u32> {
     let chain = reading::chain(&case.chain).expect("a chain that is served");
-    let rust = untouched::kinematics(&bare(&chain));
+    let machine = bare(&chain);
+    let rust = untouched::kinematics(&machine);
     let (hint, tool) = (hint(entry, case), case.tool_length);
-    match entry {
-        Entry::Inverse => untouched::inverse(&rust, &case.pose, tool, hint).unwrap_or_default(),
+    let told = match entry {
+        Entry::Inverse => untouched::inverse(&rust, &case.pose, tool, hint),
         Entry::Choose => {
-            let set = untouched::choose(&rust, &case.pose, tool, case.choice, hint);
-            set.into_iter().collect()
+            untouched::choose(&rust, &case.pose, tool, case.choice, hint).map(|set| vec![set])
         }
-    }
+    };
+    told.map_err(|words| refusal(&words, &machine).number)
 }
 
 fn lengths_fit(entry: Entry, case: &Case) -> bool {

@@ -44,7 +44,7 @@ pub struct Tally {
     machines: [u64; MACHINES.len()],
     choices: [u64; CHOICES.len()],
     differences: Differences,
-    from_libm: FromLibm,
+    from_libm: [FromLibm; Entry::ALL.len()],
 }
 
 struct Counts([u64; COUNTS]);
@@ -78,7 +78,9 @@ impl Outcome for Tally {
             *count += more;
         }
         self.differences.add(more.differences);
-        self.from_libm.add(more.from_libm);
+        for (sum, more) in self.from_libm.iter_mut().zip(more.from_libm) {
+            sum.add(more);
+        }
     }
 }
 
@@ -99,12 +101,14 @@ impl Tally {
     fn see(&mut self, entry: Entry, case: &Case, answer: &Answer) {
         let number = answer.as_ref().err().map_or(0, |refusal| refusal.number);
         self.met[entry as usize][number as usize] += 1;
+        if matches!(number, 0 | 21 | 22) {
+            self.from_libm[entry as usize].see(entry, case, answer);
+        }
         let Ok(sets) = answer else { return };
         match entry {
             Entry::Inverse => {
                 self.counts.0[sets.len()] += 1;
                 self.machines[machine(case)] += 1;
-                self.from_libm.see(case, sets);
             }
             Entry::Choose => self.choices[case.choice as usize] += 1,
         }
@@ -118,7 +122,9 @@ impl Tally {
     /// that is enough.
     pub fn print(&self, fewest: u64) -> ExitCode {
         let rare = self.print_met(fewest);
-        self.from_libm.print();
+        for (entry, from_libm) in Entry::ALL.iter().zip(&self.from_libm) {
+            from_libm.print(*entry);
+        }
         let different = self.differences.print("inverses");
         ExitCode::from(u8::from(different || rare))
     }
@@ -161,10 +167,12 @@ fn machine(case: &Case) -> usize {
     }
 }
 
-/// The largest distances from the answers with libm, over those where both have the same joint sets, and in how many they have not.
+/// The largest distances from the answers with libm, over those where both have the same joint sets, and in how many calls that come to
+/// their solving they have not, or have another number.
 #[derive(Default)]
 struct FromLibm {
     compared: u64,
+    other_number: u64,
     others: u64,
     angle: Most,
     point: Most,
@@ -191,8 +199,8 @@ impl Most {
         }
     }
 
-    fn print(&self, words: &str) {
-        println!("from libm, {words}: at most {:.3e}", self.value);
+    fn print(&self, entry: &str, words: &str) {
+        println!("{entry} from libm, {words}: at most {:.3e}", self.value);
         if let Some(case) = &self.case {
             println!("    at {case}");
         }
@@ -200,10 +208,17 @@ impl Most {
 }
 
 impl FromLibm {
-    fn see(&mut self, case: &Case, sets: &Sets) {
-        let libms = with_libm(Entry::Inverse, case);
+    fn see(&mut self, entry: Entry, case: &Case, answer: &Answer) {
         self.compared += 1;
-        let pairs: Vec<_> = sets.iter().map(|set| nearest(set, &libms)).collect();
+        match (answer, with_libm(entry, case)) {
+            (Ok(sets), Ok(libms)) => self.measure(case, sets, &libms),
+            (Err(refusal), Err(number)) if refusal.number == number => (),
+            _ => self.other_number += 1,
+        }
+    }
+
+    fn measure(&mut self, case: &Case, sets: &Sets, libms: &Sets) {
+        let pairs: Vec<_> = sets.iter().map(|set| nearest(set, libms)).collect();
         let others = pairs.iter().any(|&(gap, _)| gap > OTHER);
         if libms.len() != sets.len() || others {
             self.others += 1;
@@ -222,21 +237,28 @@ impl FromLibm {
 
     fn add(&mut self, more: FromLibm) {
         self.compared += more.compared;
+        self.other_number += more.other_number;
         self.others += more.others;
         self.angle.add(more.angle);
         self.point.add(more.point);
         self.usual_point.add(more.usual_point);
     }
 
-    fn print(&self) {
+    fn print(&self, entry: Entry) {
+        let FromLibm {
+            compared,
+            other_number,
+            others,
+            ..
+        } = self;
+        let name = entry.name();
         println!(
-            "from libm, other joint sets or another count: {} of {} calls that are served",
-            self.others, self.compared
+            "{name} with libm, of {compared} that are solved: {other_number} have another number, {others} other joint sets"
         );
-        self.angle.print("angle, degrees");
-        self.point.print("point, mm");
+        self.angle.print(name, "angle, degrees");
+        self.point.print(name, "point, mm");
         self.usual_point
-            .print("point, mm, within 1000 mm and 360 degrees");
+            .print(name, "point, mm, within 1000 mm and 360 degrees");
     }
 }
 

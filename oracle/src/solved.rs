@@ -118,7 +118,7 @@ pub fn pose_in(words: &str) -> usize {
 }
 
 /// The number, and the letter of a rotary.
-fn cause(words: &str, pose: usize) -> (u32, u8) {
+pub(crate) fn cause(words: &str, pose: usize) -> (u32, u8) {
     let rest = words.strip_prefix(&format!("pose {pose}"));
     match rest.expect("a refusal at a pose") {
         " is unreachable" => (25, 0),

@@ -106,14 +106,18 @@ impl Ways {
         let all_finite = answer.iter().flatten().all(|x| x.is_finite());
         if *told != must || !all_finite {
             self.differences.note(|| example(path, told));
-        } else if let Ok(joints) = &answer {
-            self.poses += (joints.len() / JOINTS) as u64;
-            self.look(path, joints);
-        } else if let Err(refusal) = &answer
-            && refusal.clears
-        {
-            self.look_at_refusal(path, refusal);
+            return;
         }
+        match &answer {
+            Ok(joints) => {
+                self.poses += (joints.len() / JOINTS) as u64;
+                self.look(path, joints);
+            }
+            Err(refusal) if refusal.clears => self.look_at_refusal(path, refusal),
+            Err(_) => return,
+        }
+        let chain = reading::chain(&path.chain).expect("a chain whose poses are looked at");
+        self.from_libm.see(path, &chain, &answer);
     }
 
     /// At a path that is served.
@@ -150,7 +154,6 @@ impl Ways {
             }
             previous = [set[3], set[4]];
         }
-        self.from_libm.see(path, &chain, joints);
     }
 
     /// At a pose that is refused.
