@@ -1,8 +1,12 @@
-//! The jobs of examples/jobs: each is answered as its `.expected` has it, and stands with its answer in the README there.
+//! The jobs of examples/jobs: each is answered as its `.expected` has it, and stands with its answer in the README there; and the
+//! picture of one in docs.
 
 #[path = "../examples/answer.rs"]
 #[allow(dead_code)]
 mod answer;
+#[path = "../examples/draw.rs"]
+#[allow(dead_code)]
+mod draw;
 
 use maztubel::{Job, Place, Tolerances};
 use std::collections::{BTreeMap, BTreeSet};
@@ -32,6 +36,16 @@ fn answers() {
         let expected = fs::read_to_string(folder().join(format!("{name}.expected"))).unwrap();
         assert_eq!(answer::answer(&bytes), expected, "{name}");
     }
+}
+
+/// A dot for each pose in each of the plots, one of tips and two of angles; and those of the key.
+#[test]
+fn the_picture_has_every_pose() {
+    let svg = draw::picture(&jobs()["finishing"]).unwrap();
+    let [given, inserted] = ["r=\"4\"", "r=\"2.5\""].map(|dot| svg.matches(dot).count());
+    assert_eq!((given, inserted), (3 * 13 + 1, 3 * 36 + 1));
+    let drawn = Path::new(env!("CARGO_MANIFEST_DIR")).join("../../docs/finishing.svg");
+    assert_eq!(fs::read_to_string(drawn).unwrap(), svg);
 }
 
 /// The bits of a number; every nan is one, as the library has it.
