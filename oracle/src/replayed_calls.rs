@@ -7,7 +7,7 @@ use crate::divisions::{Division, From, Rooms, spaces};
 use crate::inverse_calls::{self, LENT_COUNT};
 use crate::inverse_cases;
 use crate::inverse_reference;
-use crate::paths::Path;
+use crate::paths::{POSE, Path};
 use crate::random::Random;
 use crate::reference;
 use crate::replayed::{FILLED, FILLED_COUNT, Given, Line, Replayed};
@@ -34,7 +34,7 @@ fn count(count: u64) -> u64 {
 }
 
 fn few(poses: &[f64]) -> bool {
-    poses.len() <= MOST_POSES * crate::paths::POSE
+    poses.len() <= MOST_POSES * POSE
 }
 
 /// The chain check or forward.
@@ -84,9 +84,11 @@ pub fn of_inverse(entry: inverse_cases::Entry, random: &mut Random) -> Option<Re
     )
 }
 
+/// Mostly of some poses: the first of a path follows no other.
 pub fn of_path(random: &mut Random) -> Option<Replayed> {
     let path = Path::drawn(random);
-    if !few(&path.poses) {
+    let alone = path.poses.len() <= POSE;
+    if !few(&path.poses) || (alone && random.below(8) > 0) {
         return None;
     }
     let told = solved::telling(&path, &solved::expected(&path));

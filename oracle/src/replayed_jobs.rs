@@ -37,30 +37,39 @@ pub fn examples() -> Vec<Vec<u8>> {
 pub fn job(random: &mut Random) -> Vec<u8> {
     let chain = chains::sound(random).bytes();
     let count = random.below(5) as usize;
-    let poses: Vec<u8> = (0..POSE * count)
-        .flat_map(|_| floats::any(random).to_le_bytes())
-        .collect();
-    let mut bytes = some_bytes(random);
-    let parts = match random.below(2) {
-        0 => [&chain, &poses],
-        _ => [&poses, &chain],
-    };
-    let places = parts.map(|part| {
-        let at = bytes.len() as u32;
-        bytes.extend(part);
-        bytes.extend(some_bytes(random));
-        at
-    });
-    let chain_first = std::ptr::eq(parts[0], &chain);
-    let [chain_at, poses_at] = [usize::from(!chain_first), usize::from(chain_first)];
-    for word in [places[chain_at], places[poses_at], count as u32, 0] {
-        bytes.extend(word.to_le_bytes());
-    }
-    bytes.extend((0..3).flat_map(|_| floats::any(random).to_le_bytes()));
+    let poses = some_numbers(POSE * count, random);
+    let mut bytes = Vec::new();
+    let (chain_at, poses_at);
     if random.below(2) == 0 {
-        damage(&mut bytes, places[chain_at] as usize, random);
+        chain_at = put(&chain, &mut bytes, random);
+        poses_at = put(&poses, &mut bytes, random);
+    } else {
+        poses_at = put(&poses, &mut bytes, random);
+        chain_at = put(&chain, &mut bytes, random);
+    }
+    bytes.extend(some_bytes(random));
+    for word in [chain_at, poses_at, count, 0] {
+        bytes.extend((word as u32).to_le_bytes());
+    }
+    bytes.extend(some_numbers(3, random));
+    if random.below(2) == 0 {
+        damage(&mut bytes, chain_at, random);
     }
     bytes
+}
+
+/// Behind a few bytes. Where it stands.
+fn put(part: &[u8], bytes: &mut Vec<u8>, random: &mut Random) -> usize {
+    bytes.extend(some_bytes(random));
+    let at = bytes.len();
+    bytes.extend(part);
+    at
+}
+
+fn some_numbers(count: usize, random: &mut Random) -> Vec<u8> {
+    (0..count)
+        .flat_map(|_| floats::any(random).to_le_bytes())
+        .collect()
 }
 
 fn some_bytes(random: &mut Random) -> Vec<u8> {
