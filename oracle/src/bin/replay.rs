@@ -51,13 +51,16 @@ mod sample {
     /// So many cases are drawn before a number that was not met often enough is an error.
     const MOST_DRAWN: usize = 1_000_000;
 
+    /// None is a case that is left out.
+    type Draw<'a> = Box<dyn Fn(&mut Random) -> Option<Replayed> + 'a>;
+
     struct Entry<'a> {
         name: &'static str,
         served: usize,
         refusals: Vec<u32>,
         /// One of so many may be long.
         longer: u64,
-        draw: Box<dyn Fn(&mut Random) -> Option<Replayed> + 'a>,
+        draw: Draw<'a>,
     }
 
     impl<'a> Entry<'a> {
