@@ -54,6 +54,12 @@ pub mod reading;
 pub mod reference;
 #[cfg(original)]
 pub mod remarkable;
+pub mod replayed;
+#[cfg(original)]
+pub mod replayed_calls;
+pub mod replayed_functions;
+#[cfg(original)]
+pub mod replayed_jobs;
 #[cfg(original)]
 pub mod rust;
 #[cfg(original)]

@@ -1,0 +1,156 @@
+//! Cases of every entry that the Rust has, drawn as the comparisons draw them, with the Rust's answers.
+
+use crate::calls::{self, GUARD, LENT};
+use crate::cases::{self, Case};
+use crate::divided;
+use crate::divisions::{Division, From, Rooms, spaces};
+use crate::inverse_calls::{self, LENT_COUNT};
+use crate::inverse_cases;
+use crate::inverse_reference;
+use crate::paths::{POSE, Path};
+use crate::random::Random;
+use crate::reference;
+use crate::replayed::{FILLED, FILLED_COUNT, Given, Line, Replayed};
+use crate::solved;
+
+/// So many poses are given at most, that lines stay short.
+const MOST_POSES: usize = 5;
+
+/// What a comparison expects of lent numbers, without the guards, and with what the program fills them with.
+fn lent(bits: &[u64]) -> Vec<f64> {
+    let filled = |&bits: &u64| match bits {
+        LENT => FILLED,
+        _ => f64::from_bits(bits),
+    };
+    let inner = &bits[GUARD..bits.len() - GUARD];
+    inner.iter().map(filled).collect()
+}
+
+fn count(count: u64) -> u64 {
+    match count {
+        LENT_COUNT => FILLED_COUNT,
+        _ => count,
+    }
+}
+
+fn few(poses: &[f64]) -> bool {
+    poses.len() <= MOST_POSES * POSE
+}
+
+/// The chain check or forward.
+pub fn of_chain(entry: cases::Entry, random: &mut Random) -> Option<Replayed> {
+    of_machine(entry, &Case::of_chain(random))
+}
+
+/// The model check or a link frame.
+pub fn of_model(entry: cases::Entry, random: &mut Random) -> Option<Replayed> {
+    of_machine(entry, &Case::of_model(random))
+}
+
+fn of_machine(entry: cases::Entry, case: &Case) -> Option<Replayed> {
+    let told = calls::telling(entry, case, &reference::expected(entry, case));
+    let mut line = Line::new(entry.name(), told.number, told.at[1], told.letter[1]);
+    if !matches!(entry, cases::Entry::CheckChain | cases::Entry::CheckModel) {
+        line = line.numbers(&lent(&told.numbers));
+    }
+    let given = Given {
+        bytes: &case.chain,
+        texts: [&case.name, &case.model, &case.carrier],
+        numbers: [&case.joints, &[], &[case.tool_length]],
+        rooms: [case.room, 0],
+        ..Given::default()
+    };
+    Replayed::new(line, &given)
+}
+
+/// Inverse or choose.
+pub fn of_inverse(entry: inverse_cases::Entry, random: &mut Random) -> Option<Replayed> {
+    let case = inverse_cases::Case::new(random);
+    let answer = inverse_reference::expected(entry, &case);
+    let told = inverse_calls::telling(entry, &case, &answer);
+    let mut line = Line::new(entry.name(), told.number, told.at[1], told.letter[1]);
+    if entry == inverse_cases::Entry::Inverse {
+        line = line.count(count(told.count[1]));
+    }
+    Replayed::new(
+        line.numbers(&lent(&told.numbers)),
+        &Given {
+            which: case.choice.min(u32::from(u16::MAX)) as u16,
+            bytes: &case.chain,
+            numbers: [&case.pose, &case.hint, &[case.tool_length]],
+            rooms: [case.room(entry), 0],
+            ..Given::default()
+        },
+    )
+}
+
+/// Mostly of some poses: the first of a path follows no other.
+pub fn of_path(random: &mut Random) -> Option<Replayed> {
+    let path = Path::drawn(random);
+    let alone = path.poses.len() <= POSE;
+    if !few(&path.poses) || (alone && random.below(8) > 0) {
+        return None;
+    }
+    let told = solved::telling(&path, &solved::expected(&path));
+    let line = Line::new("solve_path", told.number, told.at[1], told.letter[1]);
+    Replayed::new(
+        line.numbers(&lent(&told.numbers)),
+        &Given {
+            bytes: &path.chain,
+            numbers: [&path.poses, &path.start, &[path.cone]],
+            rooms: [path.room, 0],
+            ..Given::default()
+        },
+    )
+}
+
+pub fn of_joints(random: &mut Random) -> Option<Replayed> {
+    let [_, alone] = Division::drawn(random);
+    of_division("subdivide_path", &alone, random)
+}
+
+pub fn of_both(random: &mut Random) -> Option<Replayed> {
+    let [both, _] = Division::drawn(random);
+    of_division("solve_and_divide", &both, random)
+}
+
+/// With one of the spaces that it is to be tried with. Mostly something is inserted.
+fn of_division(entry: &str, division: &Division, random: &mut Random) -> Option<Replayed> {
+    if !few(&division.poses) {
+        return None;
+    }
+    let verdict = divided::expected(division);
+    let spaces = spaces(&verdict, random);
+    let rooms = spaces[random.below(spaces.len() as u64) as usize];
+    let answer = verdict.with(rooms);
+    if answer.is_ok_and(|divided| divided.inserted == 0) && random.below(16) > 0 {
+        return None;
+    }
+    let told = divided::telling(answer, rooms);
+    let [poses, joints] = lent_twice(&told.told.numbers, rooms);
+    let (at, letter) = (told.told.at[1], told.told.letter[1]);
+    let line = Line::new(entry, told.told.number, at, letter)
+        .count(count(told.inserted[1]))
+        .numbers(&poses)
+        .numbers(&joints);
+    let [chord, axis] = division.tolerances;
+    let (second, single) = match &division.from {
+        From::Joints(joints) => (joints, vec![chord, axis]),
+        From::Start { start, cone } => (start, vec![*cone, chord, axis]),
+    };
+    Replayed::new(
+        line,
+        &Given {
+            bytes: &division.chain,
+            numbers: [&division.poses, second, &single],
+            rooms,
+            ..Given::default()
+        },
+    )
+}
+
+/// Poses and joints, each between guards of its own.
+fn lent_twice(bits: &[u64], [poses, _]: Rooms) -> [Vec<f64>; 2] {
+    let (poses, joints) = bits.split_at(GUARD + poses + GUARD);
+    [lent(poses), lent(joints)]
+}
