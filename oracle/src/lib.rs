@@ -4,6 +4,8 @@
 
 pub mod angles;
 #[cfg(original)]
+pub mod cables;
+#[cfg(original)]
 pub mod calls;
 pub mod cases;
 pub mod chains;
@@ -31,6 +33,14 @@ pub mod inverse_cases;
 pub mod inverse_reference;
 #[cfg(original)]
 pub mod inverse_tally;
+#[cfg(original)]
+pub mod job_calls;
+#[cfg(original)]
+pub mod job_damages;
+#[cfg(original)]
+pub mod job_tally;
+#[cfg(original)]
+pub mod jobs;
 pub mod joints;
 pub mod lean;
 pub mod machines;
@@ -46,6 +56,8 @@ pub mod paths;
 #[cfg(original)]
 pub mod posted;
 pub mod probe;
+#[cfg(original)]
+pub mod program;
 pub mod random;
 pub mod reading;
 #[cfg(original)]

@@ -25,6 +25,12 @@ impl Met {
         }
     }
 
+    /// Those of `all` that were not met.
+    pub fn unmet(&self, all: impl IntoIterator<Item = String>) -> Vec<String> {
+        let met = |what: &String| self.0.contains_key(what);
+        all.into_iter().filter(|what| !met(what)).collect()
+    }
+
     /// A row for each of `all`, which comes with how often it must be met. Whether one was met less often.
     pub fn print(&self, all: impl IntoIterator<Item = (String, u64)>) -> bool {
         let mut rare = Vec::new();

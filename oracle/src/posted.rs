@@ -1,6 +1,7 @@
 //! The answer to a job as the program `post` must write it: by the Rust, whose sine, cosine, arctangent and arccosine are the
 //! exported ones, and by document 01 where it adds to the Rust. What the bytes say is told by the reader of tools/job.
 
+use crate::cables;
 use crate::original::ported::kinematics::{Joints, ToolPose, subdivide_path};
 use crate::paths::{JOINTS, POSE, Path};
 use crate::reading;
@@ -50,18 +51,18 @@ fn divided(path: &Path, joints: &[f64], chord: f64, axis: f64) -> String {
 }
 
 fn lines(joints: &[Joints], inserted: usize) -> String {
-    let turns = |rotary: usize| {
+    let most_turns = |rotary: usize| {
         joints
             .iter()
-            .map(|set| (set.angles[rotary].abs() / 360.0) as u64)
+            .map(|set| cables::turns(set.angles[rotary]))
             .max()
             .unwrap_or(0)
     };
     let mut text = format!(
         "poses {} inserted {inserted} turns {} {}\n",
         joints.len(),
-        turns(0),
-        turns(1)
+        most_turns(0),
+        most_turns(1)
     );
     for (index, set) in joints.iter().enumerate() {
         let numbers = [
