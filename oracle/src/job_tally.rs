@@ -6,7 +6,7 @@ use crate::calls::{Guarded, Told};
 use crate::job_calls::{Read, ask_poses, ask_read, expected_poses, telling_poses, telling_read};
 use crate::jobs::{for_program, for_reader};
 use crate::joints::MOST_ANGLE;
-use crate::met::{Differences, Met};
+use crate::met::{Account, Differences, Met};
 use crate::parts::Outcome;
 use crate::paths::{JOINTS, POSE};
 use crate::random::Random;
@@ -203,19 +203,6 @@ impl JobTally {
         }
     }
 
-    pub fn differences(&self) -> &Differences {
-        &self.differences
-    }
-
-    /// How many calls of each entry were compared.
-    pub fn calls(&self) -> impl Iterator<Item = (&'static str, u64)> {
-        ENTRIES.into_iter().zip(self.calls)
-    }
-
-    pub fn unmet(&self) -> Vec<String> {
-        self.met.unmet(all())
-    }
-
     /// Status 1 where there is a difference, or where something was met less often than `fewest` times.
     pub fn print(&self, fewest: u64) -> ExitCode {
         let rare = self.met.print(all().into_iter().map(|what| (what, fewest)));
@@ -224,6 +211,20 @@ impl JobTally {
         }
         let different = self.differences.print("jobs");
         ExitCode::from(u8::from(different || rare))
+    }
+}
+
+impl Account for JobTally {
+    fn calls(&self) -> Vec<(&'static str, u64)> {
+        ENTRIES.into_iter().zip(self.calls).collect()
+    }
+
+    fn noted(&self) -> Vec<&Differences> {
+        vec![&self.differences]
+    }
+
+    fn unmet(&self) -> Vec<String> {
+        self.met.unmet(all())
     }
 }
 

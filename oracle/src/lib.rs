@@ -73,6 +73,8 @@ pub mod tally;
 pub mod targets;
 #[cfg(original)]
 pub mod walks;
+pub mod wave_tally;
+pub mod waves;
 #[cfg(original)]
 pub mod ways;
 #[cfg(original)]

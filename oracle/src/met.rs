@@ -72,12 +72,27 @@ impl Differences {
         self.count
     }
 
-    /// Whether there are any.
-    pub fn print(&self, comparison: &str) -> bool {
+    pub fn print_examples(&self) {
         for example in self.examples.iter().take(SHOWN) {
             println!("{example}");
         }
+    }
+
+    /// Whether there are any.
+    pub fn print(&self, comparison: &str) -> bool {
+        self.print_examples();
         println!("{comparison}: {} differences", self.count);
         self.count > 0
     }
+}
+
+/// What a comparison has come to, whichever entries it compares.
+pub trait Account {
+    /// The entries, each with how many calls of it were held to what is expected.
+    fn calls(&self) -> Vec<(&'static str, u64)>;
+
+    fn noted(&self) -> Vec<&Differences>;
+
+    /// What can be met and was not.
+    fn unmet(&self) -> Vec<String>;
 }
