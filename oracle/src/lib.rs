@@ -67,6 +67,8 @@ pub mod remarkable;
 #[cfg(original)]
 pub mod rust;
 #[cfg(original)]
+pub mod soak;
+#[cfg(original)]
 pub mod solved;
 #[cfg(original)]
 pub mod tally;

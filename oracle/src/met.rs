@@ -86,6 +86,15 @@ impl Differences {
     }
 }
 
+/// The calls of each entry, counted by the number that it must answer.
+pub fn calls_by_number<const N: usize>(
+    entries: impl IntoIterator<Item = &'static str>,
+    met: &[[u64; N]],
+) -> Vec<(&'static str, u64)> {
+    let calls = met.iter().map(|counts| counts.iter().sum());
+    entries.into_iter().zip(calls).collect()
+}
+
 /// What a comparison has come to, whichever entries it compares.
 pub trait Account {
     /// The entries, each with how many calls of it were held to what is expected.

@@ -43,7 +43,8 @@ fn generator(seed: u64, part: u64) -> Random {
     Random::new(Random::new(seed).bits() ^ Random::new(part).bits())
 }
 
-/// Does one part after another until the time is over, each by its index, and shows what all have come to each time `between` is.
+/// Does one part after another until the time is over, each by its index, and shows what all have come to so far, again and again
+/// with so much time between. The generators are others than those of `compared`.
 pub fn compared_for<T: Outcome>(
     seed: u64,
     [time, between]: [Duration; 2],
@@ -58,7 +59,7 @@ pub fn compared_for<T: Outcome>(
         while Instant::now() < end {
             let part = next.fetch_add(1, Relaxed);
             let mut sum = T::default();
-            work(&mut sum, part, &mut generator(seed, part));
+            work(&mut sum, part, &mut generator(!seed, part));
             added().add(sum);
         }
     };

@@ -3,7 +3,7 @@
 
 use crate::calls::{Told, ask, telling};
 use crate::cases::{Case, Entry};
-use crate::met::{Account, Differences};
+use crate::met::{Account, Differences, calls_by_number};
 use crate::parts::Outcome;
 use crate::random::Random;
 use crate::reading;
@@ -131,10 +131,7 @@ impl Tally {
 
 impl Account for Tally {
     fn calls(&self) -> Vec<(&'static str, u64)> {
-        let entries = Entry::ALL.iter().zip(self.met);
-        entries
-            .map(|(entry, met)| (entry.name(), met.iter().sum()))
-            .collect()
+        calls_by_number(Entry::ALL.map(Entry::name), &self.met)
     }
 
     fn noted(&self) -> Vec<&Differences> {
