@@ -4,7 +4,7 @@
 use crate::cables::{self, Case, turns};
 use crate::calls::{Guarded, Told};
 use crate::job_calls::{Read, ask_poses, ask_read, expected_poses, telling_poses, telling_read};
-use crate::jobs::{for_program, for_reader};
+use crate::jobs::{for_program, for_reader, short};
 use crate::joints::MOST_ANGLE;
 use crate::met::{Account, Differences, Met};
 use crate::parts::Outcome;
@@ -111,7 +111,7 @@ const POSTED: [&str; 20] = [
 pub struct JobTally {
     met: Met,
     calls: [u64; ENTRIES.len()],
-    differences: Differences,
+    differences: [Differences; ENTRIES.len()],
 }
 
 impl Outcome for JobTally {
@@ -120,7 +120,9 @@ impl Outcome for JobTally {
         for (count, more) in self.calls.iter_mut().zip(more.calls) {
             *count += more;
         }
-        self.differences.add(more.differences);
+        for (differences, more) in self.differences.iter_mut().zip(more.differences) {
+            differences.add(more);
+        }
     }
 }
 
@@ -139,6 +141,20 @@ impl JobTally {
         for _ in 0..jobs {
             let bytes = for_program(random);
             self.hold_posted(&bytes, &program::post(&bytes));
+        }
+    }
+
+    /// A short job with each byte changed to each other one, and cut at each place, at its end and at its beginning.
+    pub fn compare_each_change(&mut self, random: &mut Random) {
+        let job = short(random);
+        for place in 0..job.len() {
+            for byte in 0..=u8::MAX {
+                let mut bytes = job.clone();
+                bytes[place] = byte;
+                self.compare_job(&bytes, random);
+            }
+            self.compare_job(&job[..place], random);
+            self.compare_job(&job[place..], random);
         }
     }
 
@@ -185,7 +201,7 @@ impl JobTally {
         self.calls[entry] += 1;
         if told != must {
             let words = || format!("{}: {}", ENTRIES[entry], inputs());
-            self.differences
+            self.differences[entry]
                 .note(|| format!("{}\n    told {told}\n    must {must}", words()));
         }
     }
@@ -195,12 +211,16 @@ impl JobTally {
         self.met.count(format!("post, {}", answered_post(&must)));
         self.calls[POST] += 1;
         if told.as_ref() != Ok(&must) {
-            self.differences.note(|| {
+            self.differences[POST].note(|| {
                 let (Ok(told) | Err(told)) = told;
                 let words = spelled(bytes);
                 format!("post: {words}\n    told {told}\n    must {must}")
             });
         }
+    }
+
+    pub fn count(&self) -> u64 {
+        self.differences.iter().map(Differences::count).sum()
     }
 
     /// Status 1 where there is a difference, or where something was met less often than `fewest` times.
@@ -209,8 +229,9 @@ impl JobTally {
         for (entry, calls) in self.calls() {
             println!("{entry}: {calls} calls");
         }
-        let different = self.differences.print("jobs");
-        ExitCode::from(u8::from(different || rare))
+        let each = self.differences.iter().zip(ENTRIES);
+        let different = each.filter(|(differences, entry)| differences.print(entry));
+        ExitCode::from(u8::from(different.count() > 0 || rare))
     }
 }
 
@@ -220,7 +241,7 @@ impl Account for JobTally {
     }
 
     fn noted(&self) -> Vec<&Differences> {
-        vec![&self.differences]
+        self.differences.iter().collect()
     }
 
     fn unmet(&self) -> Vec<String> {
@@ -403,7 +424,7 @@ mod tests {
             fault(CABLE_NUMBER, &mut told);
             tally.hold_cable(&case, &told);
         }
-        tally.differences.count()
+        tally.count()
     }
 
     const FAULTS: [(&str, Fault); 10] = [
@@ -476,9 +497,9 @@ mod tests {
         let mut tally = JobTally::default();
         let short = [0; 39];
         tally.hold_posted(&short, &Ok("refused 29\n".to_owned()));
-        assert_eq!(tally.differences.count(), 0);
+        assert_eq!(tally.count(), 0);
         tally.hold_posted(&short, &Ok("refused 29".to_owned()));
         tally.hold_posted(&short, &Err("refused 29\n".to_owned()));
-        assert_eq!(tally.differences.count(), 2);
+        assert_eq!(tally.count(), 2);
     }
 }

@@ -17,6 +17,9 @@ const MOST_POSES: u64 = 1362;
 /// The program has space for so many poses, which is fewer.
 const SPACE: u64 = 700;
 
+/// A chain of two rotaries, two poses and a trailer, and some bytes more.
+const SHORT: usize = 330;
+
 /// Quarter turns up to the largest angle that is served.
 const QUARTERS: u64 = 400;
 
@@ -45,6 +48,16 @@ pub fn for_reader(random: &mut Random) -> Vec<u8> {
         resize(&mut written.bytes, random);
     }
     written.bytes
+}
+
+/// A short job that is read: a chain, at most two poses and few bytes beside them.
+pub fn short(random: &mut Random) -> Vec<u8> {
+    loop {
+        let job = Content::any(random).written(random).bytes;
+        if job.len() <= SHORT {
+            return job;
+        }
+    }
 }
 
 /// A job whose path can be solved, or is refused on the way; its bytes are mostly sound.

@@ -54,10 +54,11 @@ const ROUND: [Part; 20] = [
 
 /// One round in so many, the second of them first, has the cases that take longer.
 const ROUNDS: u64 = 32;
-const LONG: [Part; 3] = [
+const LONG: [Part; 4] = [
     Soak::long_paths,
     Soak::exact_divisions,
     Soak::long_divisions,
+    Soak::short_jobs,
 ];
 
 impl Outcome for Soak {
@@ -122,6 +123,10 @@ impl Soak {
 
     fn long_divisions(&mut self, random: &mut Random) {
         self.divisions.compare_others(random);
+    }
+
+    fn short_jobs(&mut self, random: &mut Random) {
+        self.jobs.compare_each_change(random);
     }
 
     fn families(&self) -> [&dyn Account; 6] {

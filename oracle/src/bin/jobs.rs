@@ -5,7 +5,8 @@
 //!
 //! Each job of examples/jobs is answered by the Rust, which must be what stands beside it as `.expected`. Then THOUSANDS (1000)
 //! thousand random jobs, sound and damaged, are read and asked for their poses, as many cable numbers are counted, and one job for
-//! each hundred of these goes through the program as a process. Every answer is compared: the number, the place, the letter, each
+//! each hundred of these goes through the program as a process. A few short jobs are read with each byte changed to each other one,
+//! and cut at each place. Every answer is compared: the number, the place, the letter, each
 //! lent number bit for bit, and what the program writes. Prints how often each answer was met, and the first differences. Ends with
 //! status 1 where there is a difference, or where something was not met.
 
@@ -21,7 +22,7 @@ fn main() -> ExitCode {
 #[cfg(original)]
 mod comparison {
     use oracle::job_tally::JobTally;
-    use oracle::parts::{argument, compared};
+    use oracle::parts::{Outcome, argument, compared};
     use oracle::posted;
     use oracle::random::Random;
     use std::fs;
@@ -32,6 +33,9 @@ mod comparison {
     const JOBS: u64 = 1000;
     const POSTED: u64 = 10;
 
+    /// How many short jobs are changed in each byte.
+    const SHORT: u64 = 6;
+
     /// How often each answer must be met in a hundred parts, on the average.
     const FEWEST: u64 = 1;
 
@@ -41,7 +45,9 @@ mod comparison {
         let examples = compare_examples();
         println!("seed {seed}, {thousands} thousand jobs");
         let parts = (1000 * thousands).div_ceil(JOBS);
-        let drawn = compared(seed, parts, compare_part).print((parts * FEWEST).div_ceil(100));
+        let mut total = compared(seed, parts, compare_part);
+        total.add(compared(seed, SHORT, JobTally::compare_each_change));
+        let drawn = total.print((parts * FEWEST).div_ceil(100));
         if examples { drawn } else { ExitCode::FAILURE }
     }
 
