@@ -4,15 +4,17 @@
 use crate::divided::{Answer, Divided, MOST_INSERTED, Told, Verdict, ask, expected, telling};
 use crate::divided_with_libm::WithLibm;
 use crate::divisions::{Division, From, Rooms, spaces};
-use crate::met::{Differences, Met};
+use crate::met::{Account, Differences, Met};
 use crate::original::ported::kinematics::{Joints, Kinematics, ToolPose};
 use crate::parts::Outcome;
 use crate::paths::{JOINTS, POSE};
 use crate::random::Random;
 use crate::reading;
+use crate::remarkable::{long, remarkable};
 use crate::rust::ported;
 use crate::solved::MOST_POSES;
 use crate::ways::{MACHINES, kind};
+use crate::zigzags::needing;
 use std::process::ExitCode;
 
 /// A difference is reduced where few poses are inserted, by at most so many tries.
@@ -90,7 +92,7 @@ const NEEDED: [&str; 3] = ["needs 9999", "needs 10000", "needs 10001"];
 #[derive(Default)]
 pub struct Insertions {
     met: Met,
-    calls: u64,
+    calls: [u64; 2],
     poses: u64,
     differences: Differences,
     with_libm: [WithLibm; 2],
@@ -99,7 +101,9 @@ pub struct Insertions {
 impl Outcome for Insertions {
     fn add(&mut self, more: Insertions) {
         self.met.add(more.met);
-        self.calls += more.calls;
+        for (calls, more) in self.calls.iter_mut().zip(more.calls) {
+            *calls += more;
+        }
         self.poses += more.poses;
         self.differences.add(more.differences);
         for (sum, more) in self.with_libm.iter_mut().zip(more.with_libm) {
@@ -109,6 +113,36 @@ impl Outcome for Insertions {
 }
 
 impl Insertions {
+    /// So many paths for each of the two.
+    pub fn compare_drawn(&mut self, paths: u64, random: &mut Random) {
+        for _ in 0..paths {
+            for division in Division::drawn(random) {
+                self.compare(&division, random);
+            }
+        }
+    }
+
+    /// Paths that need as many insertions as may be, or one less, or one more.
+    pub fn compare_exact(&mut self, random: &mut Random) {
+        for count in MOST_INSERTED - 1..=MOST_INSERTED + 1 {
+            for solved in [false, true] {
+                let division = needing(count, solved, random);
+                self.needed(&division, count);
+                self.compare(&division, random);
+            }
+        }
+    }
+
+    /// Remarkable paths with every space, and long ones.
+    pub fn compare_others(&mut self, random: &mut Random) {
+        for division in remarkable() {
+            self.compare_each_space(&division);
+        }
+        for division in long(random) {
+            self.compare(&division, random);
+        }
+    }
+
     /// Calls the export with several spaces, and holds what it tells to what it must tell. One in `LOOKED_INTO` is looked into.
     pub fn compare(&mut self, division: &Division, random: &mut Random) {
         let verdict = expected(division);
@@ -150,7 +184,7 @@ impl Insertions {
         let answer = verdict.with(rooms);
         let must = telling(answer, rooms);
         let entry = entry(division);
-        self.calls += 1;
+        self.calls[usize::from(entry == ALONE)] += 1;
         self.met.count(format!("{entry}, {}", answered(answer)));
         let mut answers = answer.iter().flat_map(|divided| divided.numbers());
         if *told != must || !answers.all(|x| x.is_finite()) {
@@ -237,12 +271,27 @@ impl Insertions {
     /// Status 1 where there is a difference, or where something was met less often than `fewest` times.
     pub fn print(&self, fewest: u64) -> ExitCode {
         let rare = self.met.print(all(fewest));
-        println!("{} calls, {} poses of served paths", self.calls, self.poses);
+        let calls: u64 = self.calls.iter().sum();
+        println!("{calls} calls, {} poses of served paths", self.poses);
         for (with_libm, entry) in self.with_libm.iter().zip([BOTH, ALONE]) {
             with_libm.print(entry);
         }
         let different = self.differences.print("divisions");
         ExitCode::from(u8::from(different || rare))
+    }
+}
+
+impl Account for Insertions {
+    fn calls(&self) -> Vec<(&'static str, u64)> {
+        [BOTH, ALONE].into_iter().zip(self.calls).collect()
+    }
+
+    fn noted(&self) -> Vec<&Differences> {
+        vec![&self.differences]
+    }
+
+    fn unmet(&self) -> Vec<String> {
+        self.met.unmet(all(1).into_iter().map(|(what, _)| what))
     }
 }
 

@@ -1,11 +1,12 @@
 //! What comes of calling inverse and choose: how often each refusal, each count and each kind of machine was met, the differences
 //! from what is expected, and how far the answers lie from those that the Rust gives with libm.
 
-use crate::inverse_calls::{Told, telling};
+use crate::inverse_calls::{Told, ask, telling};
 use crate::inverse_cases::{Case, Entry};
 use crate::inverse_reference::{Answer, Sets, expected, with_libm};
-use crate::met::Differences;
+use crate::met::{Account, Differences, calls_by_number};
 use crate::parts::Outcome;
+use crate::random::Random;
 use crate::reading;
 use std::process::ExitCode;
 
@@ -85,6 +86,16 @@ impl Outcome for Tally {
 }
 
 impl Tally {
+    /// Calls both exports on so many cases.
+    pub fn compare_drawn(&mut self, cases: u64, random: &mut Random) {
+        for _ in 0..cases {
+            let case = Case::new(random);
+            for entry in Entry::ALL {
+                self.compare(entry, &case, &ask(entry, &case));
+            }
+        }
+    }
+
     /// Holds what a call told to what it must tell.
     pub fn compare(&mut self, entry: Entry, case: &Case, told: &Told) {
         let answer = expected(entry, case);
@@ -154,6 +165,27 @@ impl Tally {
             println!("something was met too seldom: {least}, and {fewest} are asked");
         }
         least < fewest
+    }
+}
+
+impl Account for Tally {
+    fn calls(&self) -> Vec<(&'static str, u64)> {
+        calls_by_number(Entry::ALL.map(Entry::name), &self.met)
+    }
+
+    fn noted(&self) -> Vec<&Differences> {
+        vec![&self.differences]
+    }
+
+    fn unmet(&self) -> Vec<String> {
+        let answers = Entry::ALL.into_iter().flat_map(|entry| {
+            let met = self.met[entry as usize];
+            let none = ANSWERED.into_iter().filter(move |&n| met[n as usize] == 0);
+            none.map(move |number| format!("{}, {number}", entry.name()))
+        });
+        let counts = (1..COUNTS).filter(|&count| possible(count) && self.counts.0[count] == 0);
+        let sets = counts.map(|count| format!("inverse, {count} joint sets"));
+        answers.chain(sets).collect()
     }
 }
 

@@ -4,6 +4,8 @@
 
 pub mod angles;
 #[cfg(original)]
+pub mod cables;
+#[cfg(original)]
 pub mod calls;
 pub mod cases;
 pub mod chains;
@@ -33,6 +35,14 @@ pub mod inverse_cases;
 pub mod inverse_reference;
 #[cfg(original)]
 pub mod inverse_tally;
+#[cfg(original)]
+pub mod job_calls;
+#[cfg(original)]
+pub mod job_damages;
+#[cfg(original)]
+pub mod job_tally;
+#[cfg(original)]
+pub mod jobs;
 pub mod joints;
 pub mod lean;
 pub mod machines;
@@ -48,6 +58,8 @@ pub mod paths;
 #[cfg(original)]
 pub mod posted;
 pub mod probe;
+#[cfg(original)]
+pub mod program;
 pub mod random;
 pub mod reading;
 #[cfg(original)]
@@ -63,12 +75,16 @@ pub mod replayed_jobs;
 #[cfg(original)]
 pub mod rust;
 #[cfg(original)]
+pub mod soak;
+#[cfg(original)]
 pub mod solved;
 #[cfg(original)]
 pub mod tally;
 pub mod targets;
 #[cfg(original)]
 pub mod walks;
+pub mod wave_tally;
+pub mod waves;
 #[cfg(original)]
 pub mod ways;
 #[cfg(original)]

@@ -159,6 +159,34 @@ unsafe extern "C" {
         at: &mut u64,
         letter: &mut u8,
     ) -> u32;
+    fn maztubel_read_job(
+        job: *const u8,
+        job_length: usize,
+        chain_at: &mut u64,
+        poses_at: &mut u64,
+        count: &mut u64,
+        cone: &mut f64,
+        chord: &mut f64,
+        axis: &mut f64,
+        at: &mut u64,
+    ) -> u32;
+    fn maztubel_job_poses(
+        job: *const u8,
+        job_length: usize,
+        poses: *mut f64,
+        poses_length: usize,
+        at: &mut u64,
+    ) -> u32;
+    fn maztubel_cable_number(
+        chain: *const u8,
+        chain_length: usize,
+        joints: *const f64,
+        joints_length: usize,
+        rotary: u64,
+        number: &mut u64,
+        at: &mut u64,
+        letter: &mut u8,
+    ) -> u32;
 }
 
 pub fn sine(x: f64) -> Result<f64, u32> {
@@ -462,6 +490,51 @@ pub fn solve_and_divide(course: Course, tolerances: [f64; 2], lent: Lent) -> u32
             lent.inserted,
             lent.at,
             lent.letter,
+        )
+    }
+}
+
+/// The places are those of the chain and of the poses, and their count; the numbers are the cone and the two tolerances.
+pub fn read_job(job: &[u8], places: [&mut u64; 3], numbers: [&mut f64; 3], at: &mut u64) -> u32 {
+    let [chain_at, poses_at, count] = places;
+    let [cone, chord, axis] = numbers;
+    unsafe {
+        maztubel_read_job(
+            job.as_ptr(),
+            job.len(),
+            chain_at,
+            poses_at,
+            count,
+            cone,
+            chord,
+            axis,
+            at,
+        )
+    }
+}
+
+pub fn job_poses(job: &[u8], poses: &mut [f64], at: &mut u64) -> u32 {
+    unsafe { maztubel_job_poses(job.as_ptr(), job.len(), poses.as_mut_ptr(), poses.len(), at) }
+}
+
+pub fn cable_number(
+    chain: &[u8],
+    joints: &[f64],
+    rotary: u64,
+    number: &mut u64,
+    at: &mut u64,
+    letter: &mut u8,
+) -> u32 {
+    unsafe {
+        maztubel_cable_number(
+            chain.as_ptr(),
+            chain.len(),
+            joints.as_ptr(),
+            joints.len(),
+            rotary,
+            number,
+            at,
+            letter,
         )
     }
 }

@@ -25,6 +25,12 @@ impl Met {
         }
     }
 
+    /// Those of `all` that were not met.
+    pub fn unmet(&self, all: impl IntoIterator<Item = String>) -> Vec<String> {
+        let met = |what: &String| self.0.contains_key(what);
+        all.into_iter().filter(|what| !met(what)).collect()
+    }
+
     /// A row for each of `all`, which comes with how often it must be met. Whether one was met less often.
     pub fn print(&self, all: impl IntoIterator<Item = (String, u64)>) -> bool {
         let mut rare = Vec::new();
@@ -66,12 +72,36 @@ impl Differences {
         self.count
     }
 
-    /// Whether there are any.
-    pub fn print(&self, comparison: &str) -> bool {
+    pub fn print_examples(&self) {
         for example in self.examples.iter().take(SHOWN) {
             println!("{example}");
         }
+    }
+
+    /// Whether there are any.
+    pub fn print(&self, comparison: &str) -> bool {
+        self.print_examples();
         println!("{comparison}: {} differences", self.count);
         self.count > 0
     }
+}
+
+/// The calls of each entry, counted by the number that it must answer.
+pub fn calls_by_number<const N: usize>(
+    entries: impl IntoIterator<Item = &'static str>,
+    met: &[[u64; N]],
+) -> Vec<(&'static str, u64)> {
+    let calls = met.iter().map(|counts| counts.iter().sum());
+    entries.into_iter().zip(calls).collect()
+}
+
+/// What a comparison has come to, whichever entries it compares.
+pub trait Account {
+    /// The entries, each with how many calls of it were held to what is expected.
+    fn calls(&self) -> Vec<(&'static str, u64)>;
+
+    fn noted(&self) -> Vec<&Differences>;
+
+    /// What can be met and was not.
+    fn unmet(&self) -> Vec<String>;
 }

@@ -1,8 +1,8 @@
 //! The answer to a job as the program `post` must write it: by the Rust, whose sine, cosine, arctangent and arccosine are the
 //! exported ones, and by document 01 where it adds to the Rust. What the bytes say is told by the reader of tools/job.
 
-use crate::original::ported::kinematics::{Joints, ToolPose, subdivide_path};
-use crate::paths::{JOINTS, POSE, Path};
+use crate::cables;
+use crate::paths::{JOINTS, Path};
 use crate::reading;
 use crate::rust::ported;
 use crate::solved;
@@ -28,53 +28,44 @@ pub fn answer(bytes: &[u8]) -> String {
             format!("refused {} pose {}\n", refusal.number, refusal.at)
         }
         Err(refusal) => format!("refused {}\n", refusal.number),
-        Ok(joints) => divided(&path, &joints, job.chord, job.axis),
+        Ok(joints) => divided(&path, &joints, [job.chord, job.axis]),
     }
 }
 
-fn divided(path: &Path, joints: &[f64], chord: f64, axis: f64) -> String {
-    if [chord, axis]
-        .iter()
-        .any(|tolerance| !tolerance.is_finite() || *tolerance <= 0.0)
-    {
+fn divided(path: &Path, joints: &[f64], tolerances: [f64; 2]) -> String {
+    if tolerances.iter().any(|x| !x.is_finite() || *x <= 0.0) {
         return "refused 19\n".to_owned();
     }
     let chain = reading::chain(&path.chain).expect("a chain that was served");
-    let poses: Vec<ToolPose> = path.poses.chunks(POSE).map(ported::tool_pose).collect();
-    let joints: Vec<Joints> = joints.chunks(JOINTS).map(ported::joint_set).collect();
-    let divided = subdivide_path(&ported::setup(&chain), "p", &poses, &joints, chord, axis);
-    match divided {
-        Ok((_, joints)) if joints.len() <= SPACE => lines(&joints, joints.len() - poses.len()),
+    let setup = ported::setup(&chain);
+    match ported::subdivide_path(&setup, &path.poses, joints, tolerances) {
+        Ok([_, sets]) if sets.len() <= JOINTS * SPACE => {
+            lines(&sets, (sets.len() - joints.len()) / JOINTS)
+        }
+        Err(words) if words != "toolpath `p` inserts more than 10000 poses" => {
+            panic!("the Rust refuses to divide with '{words}'")
+        }
         _ => "refused 28\n".to_owned(),
     }
 }
 
-fn lines(joints: &[Joints], inserted: usize) -> String {
-    let turns = |rotary: usize| {
-        joints
-            .iter()
-            .map(|set| (set.angles[rotary].abs() / 360.0) as u64)
+fn lines(joints: &[f64], inserted: usize) -> String {
+    let sets = || joints.chunks(JOINTS);
+    let most_turns = |slot: usize| {
+        sets()
+            .map(|set| cables::turns(set[slot]))
             .max()
             .unwrap_or(0)
     };
     let mut text = format!(
         "poses {} inserted {inserted} turns {} {}\n",
-        joints.len(),
-        turns(0),
-        turns(1)
+        sets().len(),
+        most_turns(3),
+        most_turns(4)
     );
-    for (index, set) in joints.iter().enumerate() {
-        let numbers = [
-            set.xyz.x(),
-            set.xyz.y(),
-            set.xyz.z(),
-            set.angles[0],
-            set.angles[1],
-        ];
-        let bits = numbers
-            .map(|number| format!(" {:016X}", number.to_bits()))
-            .concat();
-        writeln!(text, "{index}{bits}").expect("a String takes every text");
+    for (index, set) in sets().enumerate() {
+        let bits = set.iter().map(|x| format!(" {:016X}", x.to_bits()));
+        writeln!(text, "{index}{}", bits.collect::<String>()).expect("a String takes every text");
     }
     text
 }

@@ -1,10 +1,11 @@
 //! What comes of calling the exports: how often each refusal was met, the differences from what is expected, and how far the
 //! answers lie from those that the Rust gives with libm.
 
-use crate::calls::{Told, telling};
+use crate::calls::{Told, ask, telling};
 use crate::cases::{Case, Entry};
-use crate::met::Differences;
+use crate::met::{Account, Differences, calls_by_number};
 use crate::parts::Outcome;
+use crate::random::Random;
 use crate::reading;
 use crate::reference::{expected, with_libm};
 use std::process::ExitCode;
@@ -49,6 +50,22 @@ impl Outcome for Tally {
 }
 
 impl Tally {
+    /// Calls the exports on so many chains with joints, and on so many models.
+    pub fn compare_drawn(&mut self, chains: u64, models: u64, random: &mut Random) {
+        for _ in 0..chains {
+            let case = Case::of_chain(random);
+            for entry in Entry::OF_CHAINS {
+                self.compare(entry, &case, &ask(entry, &case));
+            }
+        }
+        for _ in 0..models {
+            let case = Case::of_model(random);
+            for entry in Entry::OF_MODELS {
+                self.compare(entry, &case, &ask(entry, &case));
+            }
+        }
+    }
+
     /// Holds what a call told to what it must tell.
     pub fn compare(&mut self, entry: Entry, case: &Case, told: &Told) {
         let answer = expected(entry, case);
@@ -109,6 +126,26 @@ impl Tally {
             println!("an answer was met less often than {fewest} times");
         }
         rare
+    }
+}
+
+impl Account for Tally {
+    fn calls(&self) -> Vec<(&'static str, u64)> {
+        calls_by_number(Entry::ALL.map(Entry::name), &self.met)
+    }
+
+    fn noted(&self) -> Vec<&Differences> {
+        vec![&self.differences]
+    }
+
+    fn unmet(&self) -> Vec<String> {
+        let unmet = |entry: Entry| {
+            let met = self.met[entry as usize];
+            let all = answered(entry).iter();
+            all.filter(move |&&number| met[number as usize] == 0)
+                .map(move |number| format!("{}, {number}", entry.name()))
+        };
+        Entry::ALL.into_iter().flat_map(unmet).collect()
     }
 }
 
@@ -211,7 +248,6 @@ fn usual(case: &Case) -> bool {
 mod tests {
     use super::*;
     use crate::calls::{GUARD, LENT_AT, LENT_LETTER};
-    use crate::random::Random;
     use crate::reference::expected;
 
     /// Changes what an export tells, where the fault shows.

@@ -5,13 +5,14 @@ use crate::calls::Told;
 use crate::chains::Chain;
 use crate::from_libm::FromLibm;
 use crate::lean::{cross, dot, unit};
-use crate::met::{Differences, Met};
+use crate::met::{Account, Differences, Met};
 use crate::original::ported::kinematics::Way;
 use crate::parts::Outcome;
 use crate::paths::{JOINTS, POSE, Path};
+use crate::random::Random;
 use crate::reading;
 use crate::rust::ported;
-use crate::solved::{Answer, Refusal, ask, expected, reduced, telling};
+use crate::solved::{Answer, MOST_POSES, Refusal, ask, expected, reduced, telling};
 use std::process::ExitCode;
 
 /// Of a path so many poses are looked at for the ways to them.
@@ -79,6 +80,7 @@ const LIMITED: [&str; 4] = [
 #[derive(Default)]
 pub struct Ways {
     met: Met,
+    calls: u64,
     poses: u64,
     differences: Differences,
     from_libm: FromLibm,
@@ -87,6 +89,7 @@ pub struct Ways {
 impl Outcome for Ways {
     fn add(&mut self, more: Ways) {
         self.met.add(more.met);
+        self.calls += more.calls;
         self.poses += more.poses;
         self.differences.add(more.differences);
         self.from_libm.add(more.from_libm);
@@ -94,6 +97,27 @@ impl Outcome for Ways {
 }
 
 impl Ways {
+    pub fn compare_drawn(&mut self, paths: u64, random: &mut Random) {
+        for _ in 0..paths {
+            self.compare(&Path::drawn(random));
+        }
+    }
+
+    /// Paths of 5,000 poses, of as many as are served, and of one more.
+    pub fn compare_long(&mut self, random: &mut Random) {
+        for _ in 0..16 {
+            self.compare(&Path::long(5000, random));
+        }
+        self.compare(&Path::long(MOST_POSES, random));
+        let mut path = Path::long(MOST_POSES + 1, random);
+        for room in [path.room, 0] {
+            path.room = room;
+            self.compare(&path);
+        }
+        path.start = vec![f64::NAN; 5];
+        self.compare(&path);
+    }
+
     /// Calls the export, and holds what it tells to what it must tell.
     pub fn compare(&mut self, path: &Path) {
         self.hold(path, &ask(path));
@@ -102,6 +126,7 @@ impl Ways {
     pub fn hold(&mut self, path: &Path, told: &Told) {
         let answer = expected(path);
         let must = telling(path, &answer);
+        self.calls += 1;
         self.met.count(answered(&answer));
         let all_finite = answer.iter().flatten().all(|x| x.is_finite());
         if *told != must || !all_finite {
@@ -183,6 +208,25 @@ impl Ways {
         self.from_libm.print();
         let different = self.differences.print("paths");
         ExitCode::from(u8::from(different || rare))
+    }
+}
+
+impl Account for Ways {
+    fn calls(&self) -> Vec<(&'static str, u64)> {
+        vec![("solve_path", self.calls)]
+    }
+
+    fn noted(&self) -> Vec<&Differences> {
+        vec![&self.differences]
+    }
+
+    fn unmet(&self) -> Vec<String> {
+        let long = LONG.map(str::to_owned);
+        let unmet = self.met.unmet(all().into_iter().chain(long));
+        unmet
+            .iter()
+            .map(|what| format!("solve_path, {what}"))
+            .collect()
     }
 }
 
@@ -283,7 +327,6 @@ fn example(path: &Path, told: &Told) -> String {
 mod tests {
     use super::*;
     use crate::calls::GUARD;
-    use crate::random::Random;
 
     type Fault = fn(&Path, &mut Told);
 

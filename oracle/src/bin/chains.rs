@@ -18,8 +18,6 @@ fn main() -> ExitCode {
 
 #[cfg(original)]
 mod comparison {
-    use oracle::calls::ask;
-    use oracle::cases::{Case, Entry};
     use oracle::parts::{argument, compared};
     use oracle::random::Random;
     use oracle::tally::Tally;
@@ -27,8 +25,8 @@ mod comparison {
 
     /// How many parts a million has, and what is compared in each.
     const PARTS: u64 = 10;
-    const CHAINS: usize = 100_000;
-    const MODELS: usize = 6_000;
+    const CHAINS: u64 = 100_000;
+    const MODELS: u64 = 6_000;
 
     /// How often each answer of each entry must be met in a part, on the average.
     const FEWEST: u64 = 10;
@@ -43,17 +41,6 @@ mod comparison {
     }
 
     fn compare_part(tally: &mut Tally, random: &mut Random) {
-        for _ in 0..CHAINS {
-            let case = Case::of_chain(random);
-            for entry in Entry::OF_CHAINS {
-                tally.compare(entry, &case, &ask(entry, &case));
-            }
-        }
-        for _ in 0..MODELS {
-            let case = Case::of_model(random);
-            for entry in Entry::OF_MODELS {
-                tally.compare(entry, &case, &ask(entry, &case));
-            }
-        }
+        tally.compare_drawn(CHAINS, MODELS, random);
     }
 }

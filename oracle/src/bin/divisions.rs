@@ -20,13 +20,9 @@ fn main() -> ExitCode {
 
 #[cfg(original)]
 mod comparison {
-    use oracle::divided::MOST_INSERTED;
-    use oracle::divisions::Division;
     use oracle::insertions::Insertions;
     use oracle::parts::{Outcome, argument, compared};
     use oracle::random::Random;
-    use oracle::remarkable::{long, remarkable};
-    use oracle::zigzags::needing;
     use std::process::ExitCode;
 
     /// How many paths there are in a part, for each of the two.
@@ -46,35 +42,12 @@ mod comparison {
         );
         let parts = (1000 * thousands).div_ceil(PATHS);
         let mut total = compared(seed, parts, compare_part);
-        total.add(compared(seed, EXACT, compare_exact));
-        compare_others(&mut total, &mut Random::new(seed));
+        total.add(compared(seed, EXACT, Insertions::compare_exact));
+        total.compare_others(&mut Random::new(seed));
         total.print((parts * FEWEST).div_ceil(10))
     }
 
     fn compare_part(insertions: &mut Insertions, random: &mut Random) {
-        for _ in 0..PATHS {
-            for division in Division::drawn(random) {
-                insertions.compare(&division, random);
-            }
-        }
-    }
-
-    fn compare_exact(insertions: &mut Insertions, random: &mut Random) {
-        for count in MOST_INSERTED - 1..=MOST_INSERTED + 1 {
-            for solved in [false, true] {
-                let division = needing(count, solved, random);
-                insertions.needed(&division, count);
-                insertions.compare(&division, random);
-            }
-        }
-    }
-
-    fn compare_others(insertions: &mut Insertions, random: &mut Random) {
-        for division in remarkable() {
-            insertions.compare_each_space(&division);
-        }
-        for division in long(random) {
-            insertions.compare(&division, random);
-        }
+        insertions.compare_drawn(PATHS, random);
     }
 }

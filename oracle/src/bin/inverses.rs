@@ -19,8 +19,6 @@ fn main() -> ExitCode {
 
 #[cfg(original)]
 mod comparison {
-    use oracle::inverse_calls::ask;
-    use oracle::inverse_cases::{Case, Entry};
     use oracle::inverse_tally::Tally;
     use oracle::parts::{argument, compared};
     use oracle::random::Random;
@@ -28,7 +26,7 @@ mod comparison {
 
     /// How many parts a million has, and how many cases a part.
     const PARTS: u64 = 20;
-    const CASES: usize = 50_000;
+    const CASES: u64 = 50_000;
 
     /// How often each answer must be met in a part, on the average.
     const FEWEST: u64 = 1;
@@ -42,11 +40,6 @@ mod comparison {
     }
 
     fn compare_part(tally: &mut Tally, random: &mut Random) {
-        for _ in 0..CASES {
-            let case = Case::new(random);
-            for entry in Entry::ALL {
-                tally.compare(entry, &case, &ask(entry, &case));
-            }
-        }
+        tally.compare_drawn(CASES, random);
     }
 }

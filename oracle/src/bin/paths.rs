@@ -20,9 +20,7 @@ fn main() -> ExitCode {
 #[cfg(original)]
 mod comparison {
     use oracle::parts::{argument, compared};
-    use oracle::paths::Path;
     use oracle::random::Random;
-    use oracle::solved::MOST_POSES;
     use oracle::ways::Ways;
     use std::process::ExitCode;
 
@@ -38,27 +36,11 @@ mod comparison {
         println!("seed {seed}, {thousands} thousand paths");
         let parts = (1000 * thousands).div_ceil(PATHS);
         let mut total = compared(seed, parts, compare_part);
-        compare_long(&mut total, &mut Random::new(seed));
+        total.compare_long(&mut Random::new(seed));
         total.print((parts * FEWEST).div_ceil(10))
     }
 
     fn compare_part(ways: &mut Ways, random: &mut Random) {
-        for _ in 0..PATHS {
-            ways.compare(&Path::drawn(random));
-        }
-    }
-
-    fn compare_long(ways: &mut Ways, random: &mut Random) {
-        for _ in 0..16 {
-            ways.compare(&Path::long(5000, random));
-        }
-        ways.compare(&Path::long(MOST_POSES, random));
-        let mut path = Path::long(MOST_POSES + 1, random);
-        for room in [path.room, 0] {
-            path.room = room;
-            ways.compare(&path);
-        }
-        path.start = vec![f64::NAN; 5];
-        ways.compare(&path);
+        ways.compare_drawn(PATHS, random);
     }
 }
