@@ -1,8 +1,8 @@
 // The refusals of every entry, by number: document 01's table of causes. A number is written here once, and specs/Numbers.antt
 // has the same names for the contracts.
 
-// What a refusal hands back: its number; where, as the rotary, the link, the pose, the count so far or the offset that goes
-// with the number, 0 where there is none; and for LEAVES_AXIS the rotary's letter, else 0.
+// What a refusal hands back: its number; where, as the rotary, the link, the pose or the offset that goes with the number, 0
+// where there is none; and for LEAVES_AXIS the rotary's letter, else 0.
 pub struct Refusal {
     pub number: u32,
     pub at: u64,
