@@ -159,6 +159,34 @@ unsafe extern "C" {
         at: &mut u64,
         letter: &mut u8,
     ) -> u32;
+    fn maztubel_read_job(
+        job: *const u8,
+        job_length: usize,
+        chain_at: &mut u64,
+        poses_at: &mut u64,
+        count: &mut u64,
+        cone: &mut f64,
+        chord: &mut f64,
+        axis: &mut f64,
+        at: &mut u64,
+    ) -> u32;
+    fn maztubel_job_poses(
+        job: *const u8,
+        job_length: usize,
+        poses: *mut f64,
+        poses_length: usize,
+        at: &mut u64,
+    ) -> u32;
+    fn maztubel_cable_number(
+        chain: *const u8,
+        chain_length: usize,
+        joints: *const f64,
+        joints_length: usize,
+        rotary: u64,
+        number: &mut u64,
+        at: &mut u64,
+        letter: &mut u8,
+    ) -> u32;
 }
 
 pub fn sine(x: f64) -> Result<f64, u32> {
@@ -462,6 +490,59 @@ pub fn solve_and_divide(course: Course, tolerances: [f64; 2], lent: Lent) -> u32
             lent.inserted,
             lent.at,
             lent.letter,
+        )
+    }
+}
+
+/// What the trailer of a job says.
+#[derive(Clone, Copy, Default)]
+pub struct JobParts {
+    pub chain_at: u64,
+    pub poses_at: u64,
+    pub count: u64,
+    pub cone: f64,
+    pub chord: f64,
+    pub axis: f64,
+}
+
+pub fn read_job(job: &[u8], parts: &mut JobParts, at: &mut u64) -> u32 {
+    unsafe {
+        maztubel_read_job(
+            job.as_ptr(),
+            job.len(),
+            &mut parts.chain_at,
+            &mut parts.poses_at,
+            &mut parts.count,
+            &mut parts.cone,
+            &mut parts.chord,
+            &mut parts.axis,
+            at,
+        )
+    }
+}
+
+pub fn job_poses(job: &[u8], poses: &mut [f64], at: &mut u64) -> u32 {
+    unsafe { maztubel_job_poses(job.as_ptr(), job.len(), poses.as_mut_ptr(), poses.len(), at) }
+}
+
+pub fn cable_number(
+    chain: &[u8],
+    joints: &[f64],
+    rotary: u64,
+    number: &mut u64,
+    at: &mut u64,
+    letter: &mut u8,
+) -> u32 {
+    unsafe {
+        maztubel_cable_number(
+            chain.as_ptr(),
+            chain.len(),
+            joints.as_ptr(),
+            joints.len(),
+            rotary,
+            number,
+            at,
+            letter,
         )
     }
 }
