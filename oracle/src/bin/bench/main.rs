@@ -1,36 +1,61 @@
 //! Times what was proved beside what was not, in one run: `bench`. Prints Markdown; `bench --svg FILE` also draws the times as a
 //! picture. All but the floats and the four functions needs the Rust that is compared.
 
-#[cfg(original)]
+#[cfg_attr(not(original), path = "left_out.rs")]
 mod beside_rust;
 mod floats;
+mod picture;
 mod rows;
+mod svg;
 mod timing;
 mod waves;
 
-use rows::{Section, Table, growth};
-use std::env;
+use rows::{Row, Section, Table, growth};
+use std::{env, fs};
 
 fn main() {
     let arguments: Vec<String> = env::args().skip(1).collect();
-    let picture = match arguments.as_slice() {
+    let file = match arguments.as_slice() {
         [] => None,
-        [flag, file] if flag == "--svg" => Some(file.as_str()),
+        [flag, file] if flag == "--svg" => Some(file),
         _ => panic!("bench takes no arguments, or --svg and a file"),
     };
+    let (sections, grown) = timed();
+    let [rusts, libms] = ["Rust", "libm"].map(|other| chiefs(&sections, other));
+    let all = Section {
+        title: "Entries",
+        unit: "ns, the four functions beside libm:",
+        other: "Rust or libm",
+        rows: [rusts.clone(), libms.clone()].concat(),
+    };
+    show(&all.table());
+    if let Some(file) = file {
+        let svg = picture::drawn(&rusts, &libms, &grown);
+        fs::write(file, svg).expect("the picture can be written");
+    }
+}
+
+/// Shown too.
+fn timed() -> (Vec<Section>, Vec<Row>) {
     let mut sections = vec![floats::section(), waves::section()];
-    sections
-        .iter()
-        .map(Section::table)
-        .for_each(|table| show(&table));
-    let mut grown = waves::grown();
-    #[cfg(original)]
-    beside_rust::timed(&mut sections, &mut grown);
+    for section in &sections {
+        show(&section.table());
+    }
+    let of_waves = waves::grown();
+    let (beside_rust, mut grown) = beside_rust::timed();
+    sections.extend(beside_rust);
+    grown.extend(of_waves);
     let unit =
         "ns, of the port / of the Rust or libm, by the number of different inputs in one round:";
     show(&growth("Growth", unit, &grown));
-    #[cfg(original)]
-    beside_rust::of_all(&sections, &grown, picture);
+    (sections, grown)
+}
+
+/// The row of each entry that stands for it.
+fn chiefs(sections: &[Section], other: &str) -> Vec<Row> {
+    let sections = sections.iter().filter(|section| section.other == other);
+    let rows = sections.flat_map(|section| &section.rows);
+    rows.filter(|row| row.chief).cloned().collect()
 }
 
 fn show(table: &Table) {

@@ -1,11 +1,20 @@
-//! The exports beside those on paths, each as a call that is served: for what it takes of the heap and the stack.
+//! Every export as one call that is served, but for those on a finishing path: for what it takes of the heap and the stack.
 
+use super::finishing::CONE;
 use super::forwards::{TOOL_LENGTH, TWO_TABLES, chain};
-use oracle::maztubel::{self, Asked, JobParts, Machine};
+use oracle::maztubel::{self, Asked, Course, JobParts, Lent, Machine};
 use oracle::models::{self, BOX, Link};
 
 const JOINTS: [f64; 5] = [100.0, -50.0, 20.0, 30.0, -70.0];
 const POSE: [f64; 6] = [100.0, -50.0, 20.0, 0.3, 0.4, 0.8];
+const THROUGH_THE_CONE: [[f64; 6]; 6] = [
+    [0.0, 0.0, 0.0, 0.2, 0.0, 1.0],
+    [1.0, 0.0, 0.0, 0.02, 0.0, 1.0],
+    [2.0, 0.0, 0.0, 0.01, 0.0, 1.0],
+    [3.0, 0.0, 0.0, 0.0, 0.0, 1.0],
+    [4.0, 0.0, 0.0, 0.0, 0.01, 1.0],
+    [5.0, 0.0, 0.0, 0.02, 0.1, 1.0],
+];
 const HINT: [f64; 2] = [10.0, 20.0];
 const ANGLES: [f64; 100] = [0.5; 100];
 /// All five turns of each angle lie within them.
@@ -26,7 +35,7 @@ pub struct Given {
 /// With its name.
 type Export = (&'static str, fn(&mut Given) -> u32);
 
-pub const EXPORTS: [Export; 18] = [
+pub const EXPORTS: [Export; 20] = [
     ("sine", |g| maztubel::maztubel_sine(0.5, &mut g.numbers[0])),
     ("cosine", |g| {
         maztubel::maztubel_cosine(0.5, &mut g.numbers[0])
@@ -75,6 +84,21 @@ pub const EXPORTS: [Export; 18] = [
         let joints = &mut g.numbers[..5];
         maztubel::choose(asked(&g.chain), 0, joints, &mut g.at, &mut g.letter)
     }),
+    ("solve_path, through the cone", |g| {
+        let (course, joints) = (through_the_cone(&g.chain), &mut g.numbers[..30]);
+        maztubel::solve_path(course, joints, &mut g.at, &mut g.letter)
+    }),
+    ("solve_and_divide, through the cone", |g| {
+        let (poses, joints) = g.numbers.split_at_mut(130);
+        let lent = Lent {
+            poses: &mut poses[..60],
+            joints: &mut joints[..50],
+            inserted: &mut g.count,
+            at: &mut g.at,
+            letter: &mut g.letter,
+        };
+        maztubel::solve_and_divide(through_the_cone(&g.chain), [1e6, 180.0], lent)
+    }),
     ("check_model", |g| {
         let machine = machine(&g.chain, &g.model);
         maztubel::check_model(machine, &mut g.at, &mut g.letter)
@@ -122,6 +146,16 @@ impl Given {
             at: 0,
             letter: 0,
         }
+    }
+}
+
+/// Poses that are solved in other ways than those of a finishing path.
+fn through_the_cone(chain: &[u8]) -> Course<'_> {
+    Course {
+        chain,
+        poses: THROUGH_THE_CONE.as_flattened(),
+        start: &[],
+        cone: CONE,
     }
 }
 

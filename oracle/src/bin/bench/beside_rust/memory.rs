@@ -49,7 +49,7 @@ fn peaks(case: &Case, entry: &Entry) -> [u64; 5] {
 }
 
 pub fn of_exports() -> Table {
-    let unit = "Bytes at the peak of one call that is served, of the other exports:";
+    let unit = "Bytes at the peak of one call that is served:";
     let mut table = Table::new("Memory of a call", unit, &["", "heap", "stack"]);
     let mut given = Given::new();
     for (name, export) in EXPORTS {

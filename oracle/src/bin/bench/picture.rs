@@ -95,6 +95,9 @@ fn lines(svg: &mut Svg, grown: &[Row]) {
     let is_drawn = |row: &&Row| LINES.iter().any(|(name, _)| row.name() == *name);
     let times = grown.iter().filter(is_drawn);
     let times: Vec<f64> = times.flat_map(|row| [row.port, row.other]).collect();
+    if times.is_empty() {
+        return;
+    }
     let ticks = ticks(&times);
     let (least, most) = (ticks[0], ticks[ticks.len() - 1]);
     let up = |time: f64| BOTTOM - (BOTTOM - TOP) * (time / least).ln() / (most / least).ln();
