@@ -63,13 +63,15 @@ fn roots(random: &mut Random) -> [Row; 4] {
             "independent calls, any exponent",
             independent(probe::root, &positive),
             independent(machine_root, &positive),
-        ),
+        )
+        .asked("at most 6"),
         row(
             "root",
             "independent calls, 0.001 to 1,000",
             independent(probe::root, &lengths),
             independent(machine_root, &lengths),
-        ),
+        )
+        .asked("at most 6"),
         row(
             "root",
             "each on the answer before it",

@@ -51,11 +51,12 @@ fn timed() -> (Vec<Section>, Vec<Row>) {
     (sections, grown)
 }
 
-/// The row of each entry that stands for it.
+/// The row of each entry that stands for it. What is asked is said where the ratio is that of the section.
 fn chiefs(sections: &[Section], other: &str) -> Vec<Row> {
     let sections = sections.iter().filter(|section| section.other == other);
     let rows = sections.flat_map(|section| &section.rows);
-    rows.filter(|row| row.chief).cloned().collect()
+    let chiefs = rows.filter(|row| row.chief).cloned();
+    chiefs.map(|row| row.asked("")).collect()
 }
 
 fn show(table: &Table) {

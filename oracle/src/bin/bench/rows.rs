@@ -18,6 +18,8 @@ pub struct Row {
     pub inner: Option<f64>,
     /// What the arithmetic takes with libm and without checks.
     pub lean: Option<f64>,
+    /// Of the ratio, and where there is lean arithmetic of that over it.
+    pub asked: &'static str,
     /// Whether the row stands for its entry where there is one for each.
     pub chief: bool,
 }
@@ -32,6 +34,7 @@ impl Row {
             other,
             inner: None,
             lean: None,
+            asked: "",
             chief: false,
         }
     }
@@ -41,6 +44,10 @@ impl Row {
             chief: true,
             ..self
         }
+    }
+
+    pub fn asked(self, asked: &'static str) -> Self {
+        Row { asked, ..self }
     }
 
     pub fn name(&self) -> String {
@@ -92,6 +99,8 @@ impl Section {
         table.column("inner form", of_rows(|row| row.inner.map(number)));
         table.column("lean", of_rows(|row| row.lean.map(number)));
         table.column("over lean", of_rows(|row| row.over_lean().map(two)));
+        let asked = |row: &Row| (!row.asked.is_empty()).then(|| row.asked.to_owned());
+        table.column("asked", of_rows(asked));
         table
     }
 }

@@ -3,7 +3,7 @@
 
 use super::floats::{CALLS, COUNT, whole};
 use super::rows::{GROWN, Row, Section};
-use super::timing::of_each;
+use super::timing::of_both;
 use oracle::angles::{MOST, within};
 use oracle::maztubel::{self, OfOne, OfTwo};
 use oracle::probe;
@@ -62,17 +62,18 @@ fn libm_arctangents(ys: &[f64], xs: &[f64], answers: &mut [f64]) -> u32 {
     0
 }
 
-/// A function of one argument: its name, the port's, libm's, and the size of the arguments.
-type Function = (&'static str, OfOne, OfOne, f64);
+/// A function of one argument: its name, the port's, libm's, the size of the arguments, and what is asked of the ratio.
+type Function = (&'static str, OfOne, OfOne, f64, &'static str);
 
 const OF_ONE: [Function; 3] = [
-    ("sine", maztubel::maztubel_sine, libm_sine, PI),
-    ("cosine", maztubel::maztubel_cosine, libm_cosine, PI),
+    ("sine", maztubel::maztubel_sine, libm_sine, PI, "at most 5"),
+    ("cosine", maztubel::maztubel_cosine, libm_cosine, PI, ""),
     (
         "arccosine",
         maztubel::maztubel_arccosine,
         libm_arccosine,
         1.0,
+        "at most 12",
     ),
 ];
 
@@ -97,17 +98,18 @@ pub fn grown() -> Vec<Row> {
 }
 
 fn functions(calls: usize, count: usize, random: &mut Random) -> [Row; 4] {
-    let [sine, cosine, arccosine] = OF_ONE.map(|(name, port, libm, most)| {
+    let [sine, cosine, arccosine] = OF_ONE.map(|(name, port, libm, most, asked)| {
         let xs = drawn(count, most, random);
-        let [port, libm] = [port, libm].map(|function| of_one(calls, function, &xs));
-        Row::new(name, "", count, port, libm)
+        let [port, libm] = of_both(calls, count, of_one(port, &xs), of_one(libm, &xs));
+        Row::new(name, "", count, port, libm).asked(asked)
     });
     let point = |_| (within(1000.0, random), within(1000.0, random));
     let points: Vec<(f64, f64)> = (0..count).map(point).collect();
     let both: [OfTwo; 2] = [maztubel::maztubel_arctangent, libm_arctangent];
-    let [port, libm] = black_box(both)
-        .map(|function| lent(calls, &points, |(y, x), answer| function(y, x, answer)));
-    let arctangent = Row::new("arctangent", "", count, port, libm);
+    let [port, libm] =
+        black_box(both).map(|function| lent(&points, move |(y, x), answer| function(y, x, answer)));
+    let [port, libm] = of_both(calls, count, port, libm);
+    let arctangent = Row::new("arctangent", "", count, port, libm).asked("at most 6");
     [sine, cosine, arctangent, arccosine]
 }
 
@@ -115,20 +117,23 @@ fn functions(calls: usize, count: usize, random: &mut Random) -> [Row; 4] {
 fn others(random: &mut Random) -> Vec<Row> {
     let row = |entry, words, port, libm| Row::new(entry, words, COUNT, port, libm);
     let large = drawn(COUNT, MOST, random);
-    let of_large = OF_ONE[..2].iter().map(|&(name, port, libm, _)| {
-        let [port, libm] = [port, libm].map(|function| of_one(CALLS, function, &large));
-        row(name, "within 800", port, libm)
+    let of_large = OF_ONE[..2].iter().map(|&(name, port, libm, _, asked)| {
+        let [port, libm] = [port, libm].map(|function| of_one(function, &large));
+        let [port, libm] = of_both(CALLS, COUNT, port, libm);
+        row(name, "within 800", port, libm).asked(asked)
     });
     let mut rows: Vec<Row> = of_large.collect();
     for (most, words) in [(PI, "within pi"), (MOST, "within 800")] {
         let angles = drawn(COUNT, most, random);
         let both: [OfPair; 2] = [probe::sine_cosine, libm_sine_cosine];
         let [port, libm] = black_box(both).map(|function| {
-            lent(CALLS, &angles, |x, (sine, cosine): &mut (f64, f64)| {
+            lent(&angles, move |x, (sine, cosine): &mut (f64, f64)| {
                 function(x, sine, cosine)
             })
         });
-        rows.push(row("sine and cosine from one reduction", words, port, libm));
+        let [port, libm] = of_both(CALLS, COUNT, port, libm);
+        let pair = row("sine and cosine from one reduction", words, port, libm);
+        rows.push(pair.asked("at most 4"));
     }
     rows
 }
@@ -165,22 +170,21 @@ fn drawn(count: usize, most: f64, random: &mut Random) -> Vec<f64> {
     (0..count).map(|_| within(most, random)).collect()
 }
 
-fn of_one(calls: usize, function: OfOne, xs: &[f64]) -> f64 {
+fn of_one(function: OfOne, xs: &[f64]) -> impl FnMut() {
     let function = black_box(function);
-    lent(calls, xs, |x, answer| function(x, answer))
+    lent(xs, move |x, answer| function(x, answer))
 }
 
-/// One after the other, each with an answer of its own.
+/// A round of calls one after the other, each with an answer of its own.
 fn lent<I: Copy, A: Clone + Default>(
-    calls: usize,
     inputs: &[I],
     call: impl Fn(I, &mut A) -> u32,
-) -> f64 {
+) -> impl FnMut() {
     let mut answers = vec![A::default(); inputs.len()];
-    of_each(calls, inputs.len(), || {
+    move || {
         let each = inputs.iter().zip(&mut answers);
         let told = each.map(|(&input, answer)| call(input, answer));
         assert_eq!(told.sum::<u32>(), 0, "an argument was refused");
         black_box(&answers);
-    })
+    }
 }

@@ -2,7 +2,7 @@
 //! and beside lean arithmetic; and its inner form on a prepared chain beside that.
 
 use crate::rows::{GROWN, Row, Section};
-use crate::timing::of_each;
+use crate::timing::{of_both, of_each};
 use oracle::angles::within;
 use oracle::chains::{Chain, Rotary};
 use oracle::lean::Lean;
@@ -36,6 +36,7 @@ pub fn section() -> Section {
         Row {
             inner: Some(prepared(&chain, &joints)),
             lean: Some(leans(&chain, &joints)),
+            asked: "2.5, over lean at most 3",
             chief: (words, carriers) == TWO_TABLES,
             ..beside(words, &chain, &joints)
         }
@@ -59,6 +60,7 @@ pub fn grown() -> Vec<Row> {
 
 fn beside(words: &str, chain: &Chain, joints: &[[f64; 5]]) -> Row {
     let (port, rust) = (exported(chain, joints), rusts(chain, joints));
+    let [port, rust] = of_both(CALLS, joints.len(), port, rust);
     Row::new("forward", words, joints.len(), port, rust)
 }
 
@@ -93,18 +95,18 @@ pub fn chain(carriers: &[u8]) -> Chain {
     }
 }
 
-fn exported(chain: &Chain, joints: &[[f64; 5]]) -> f64 {
+fn exported(chain: &Chain, joints: &[[f64; 5]]) -> impl FnMut() {
     let bytes = chain.bytes();
     let mut poses = vec![[0.0; 6]; joints.len()];
     let (mut at, mut letter) = (0, 0);
-    of_each(CALLS, joints.len(), || {
+    move || {
         let each = joints.iter().zip(&mut poses);
         let told = each.map(|(joints, pose)| {
             maztubel::forward(&bytes, joints, TOOL_LENGTH, pose, &mut at, &mut letter)
         });
         assert_eq!(told.sum::<u32>(), 0, "a joint set was refused");
         black_box(&poses);
-    })
+    }
 }
 
 /// The chain prepared once for all the joint sets.
@@ -116,7 +118,7 @@ fn prepared(chain: &Chain, joints: &[[f64; 5]]) -> f64 {
     })
 }
 
-fn rusts(chain: &Chain, joints: &[[f64; 5]]) -> f64 {
+fn rusts(chain: &Chain, joints: &[[f64; 5]]) -> impl FnMut() {
     let rust = untouched::kinematics(&Machine {
         name_length: 1,
         chain,
@@ -124,12 +126,12 @@ fn rusts(chain: &Chain, joints: &[[f64; 5]]) -> f64 {
     });
     let joints: Vec<_> = joints.iter().map(|set| untouched::joint_set(set)).collect();
     let mut poses = Vec::with_capacity(joints.len());
-    of_each(CALLS, joints.len(), || {
+    move || {
         poses.clear();
         let each = joints.iter().map(|set| rust.forward(set, TOOL_LENGTH));
         poses.extend(each.map(|pose| pose.expect("a pose")));
         black_box(&poses);
-    })
+    }
 }
 
 fn leans(chain: &Chain, joints: &[[f64; 5]]) -> f64 {

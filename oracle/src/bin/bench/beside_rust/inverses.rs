@@ -2,7 +2,7 @@
 
 use super::forwards::{COUNT, MACHINES, TOOL_LENGTH, TWO_TABLES, chain, joint_sets, lean_forward};
 use crate::rows::{GROWN, Row, Section};
-use crate::timing::of_each;
+use crate::timing::of_both;
 use oracle::chains::Chain;
 use oracle::lean::Lean;
 use oracle::maztubel::{self, Asked};
@@ -52,14 +52,15 @@ fn beside(words: &str, chain: &Chain, count: usize) -> Row {
         .map(|([x, y, z], [i, j, k])| [x, y, z, i, j, k])
         .collect();
     let (port, rust) = (exported(chain, &poses), rusts(chain, &poses));
+    let [port, rust] = of_both(CALLS, count, port, rust);
     Row::new("inverse", words, count, port, rust)
 }
 
-fn exported(chain: &Chain, poses: &[[f64; 6]]) -> f64 {
+fn exported(chain: &Chain, poses: &[[f64; 6]]) -> impl FnMut() {
     let chain = chain.bytes();
     let mut list = [0.0; 250];
     let (mut count, mut at, mut letter) = (0, 0, 0);
-    of_each(CALLS, poses.len(), || {
+    move || {
         let told = poses.iter().map(|pose| {
             let asked = Asked {
                 chain: &chain,
@@ -72,10 +73,10 @@ fn exported(chain: &Chain, poses: &[[f64; 6]]) -> f64 {
             told
         });
         assert_eq!(told.sum::<u32>(), 0, "a pose was refused");
-    })
+    }
 }
 
-fn rusts(chain: &Chain, poses: &[[f64; 6]]) -> f64 {
+fn rusts(chain: &Chain, poses: &[[f64; 6]]) -> impl FnMut() {
     let rust = untouched::kinematics(&Machine {
         name_length: 1,
         chain,
@@ -85,10 +86,10 @@ fn rusts(chain: &Chain, poses: &[[f64; 6]]) -> f64 {
         .iter()
         .map(|pose| untouched::tool_pose(pose))
         .collect();
-    of_each(CALLS, poses.len(), || {
+    move || {
         for pose in &poses {
             let sets = rust.inverse(pose, TOOL_LENGTH, HINT);
             black_box(sets.expect("joint sets"));
         }
-    })
+    }
 }

@@ -3,7 +3,7 @@
 
 use super::finishing::{BOTH, Case, Entry, HEAD_AND_TABLE, SOLVE, SUBDIVIDE, TABLES};
 use crate::rows::{Row, Section};
-use crate::timing::of_each;
+use crate::timing::{of_both, of_each};
 use oracle::lean::Lean;
 use std::hint::black_box;
 
@@ -53,6 +53,7 @@ fn of_case(case: &Case, words: &str) -> [Row; 4] {
     let divided = timed(case, &SUBDIVIDE);
     let test = Row {
         lean: Some(lean(case) / tests_of_a_pose),
+        asked: "3",
         ..row(
             &SUBDIVIDE,
             "a test",
@@ -64,7 +65,7 @@ fn of_case(case: &Case, words: &str) -> [Row; 4] {
         ..row
     };
     [
-        chief(row(&SOLVE, "a pose", timed(case, &SOLVE))),
+        chief(row(&SOLVE, "a pose", timed(case, &SOLVE)).asked("2")),
         chief(test),
         row(&SUBDIVIDE, "a given pose", divided),
         chief(row(&BOTH, "a given pose", timed(case, &BOTH))),
@@ -74,23 +75,23 @@ fn of_case(case: &Case, words: &str) -> [Row; 4] {
 /// In ns for each given pose, of the port and of the Rust.
 fn timed(case: &Case, entry: &Entry) -> [f64; 2] {
     let mut space = case.ample_space();
-    let port = of_each(CALLS, case.given(), || {
+    let port = || {
         assert_eq!((entry.port)(case, &mut space), 0, "a path was refused");
         black_box(&space);
-    });
+    };
     let handed = case.handed();
-    let rust = of_each(CALLS, case.given(), || {
+    let rust = || {
         black_box((entry.rust)(&handed));
-    });
-    [port, rust]
+    };
+    of_both(CALLS, case.given(), port, rust)
 }
 
-/// Of a division, the same.
+/// Of a division, the same, alone: in more rounds.
 fn lean(case: &Case) -> f64 {
     let lean = Lean::new(&case.chain);
     let divided = case.given() + case.inserted;
     let mut path = Vec::with_capacity(divided);
-    let time = of_each(CALLS, case.given(), || {
+    let time = of_each(5 * CALLS, case.given(), || {
         let (poses, joints) = (black_box(&case.poses), &case.joints);
         lean.divide(poses, joints, case.tolerances, &mut path);
         black_box(&path);

@@ -7,7 +7,7 @@ use std::io::{self, Read, Write};
 use std::path::Path;
 use std::process::{Command, Stdio};
 use std::time::Duration;
-use std::{fs, thread};
+use std::{fs, mem, thread};
 
 const POSES: usize = 700;
 const JOB: usize = 65_536;
@@ -36,9 +36,10 @@ fn held(program: &Path, job: &[u8]) -> io::Result<u64> {
     let mut asleep = false;
     let peak = loop {
         let status = fs::read_to_string(&status)?;
+        let state = field(&status, "State:");
+        assert_ne!(state, "Z", "the program has ended");
         // Asleep twice: what it waits for is the pipe.
-        let before = std::mem::replace(&mut asleep, field(&status, "State:") == "S");
-        if before && asleep {
+        if mem::replace(&mut asleep, state == "S") && asleep {
             break field(&status, "VmHWM:")
                 .parse::<u64>()
                 .map_err(io::Error::other)?;
