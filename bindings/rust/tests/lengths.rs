@@ -1,10 +1,12 @@
-//! Every slice of every entry at lengths 0 to 64, among guard words and at starts that no record is aligned to. A call says 20
-//! exactly where a length is broken, writes no word outside what it is lent, and answers alike whatever stands around it.
+//! Every slice of numbers of every entry at lengths 0 to 64, among guard words and at starts that no record is aligned to, and with
+//! either end against memory that may not be touched. A call says 20 exactly where a length is broken, reads and writes no word
+//! outside what it is lent, and answers alike wherever that stands.
 
 mod common;
 
+use common::fenced::{FLUSHES, Fenced, Flush};
 use common::*;
-use maztubel::flat::{self, JobParts, Told};
+use maztubel::flat::{self, Told};
 use std::slice;
 
 /// What stands before a call in an output.
@@ -12,6 +14,9 @@ const BEFORE: f64 = 7.25;
 
 /// An entry as a call on its slices: those it reads, then those it writes.
 type Ask<'a> = &'a dyn Fn(&[&[f64]], &mut [&mut [f64]]) -> Told;
+
+/// What a call tells, and the bits of each output.
+type Answer = (Told, Vec<Vec<u64>>);
 
 /// What stands around a slice, and how many words of it on each side.
 #[derive(Clone, Copy)]
@@ -41,8 +46,7 @@ fn bits(numbers: &[f64]) -> Vec<u64> {
     numbers.iter().map(|number| number.to_bits()).collect()
 }
 
-/// The answer, and the bits of each output.
-fn called(read: &[Vec<f64>], written: &[usize], guard: Guard, ask: Ask) -> (Told, Vec<Vec<u64>>) {
+fn called(read: &[Vec<f64>], written: &[usize], guard: Guard, ask: Ask) -> Answer {
     let inputs: Vec<Vec<f64>> = read.iter().map(|numbers| guarded(numbers, guard)).collect();
     let mut outputs: Vec<Vec<f64>> = written
         .iter()
@@ -79,6 +83,27 @@ fn called(read: &[Vec<f64>], written: &[usize], guard: Guard, ask: Ask) -> (Told
     (told, left.collect())
 }
 
+/// The same with each slice in a fence of its own.
+fn fenced(
+    read: &[Vec<f64>],
+    written: &[usize],
+    flush: Flush,
+    fences: &mut [Fenced],
+    ask: Ask,
+) -> Answer {
+    let (inputs, outputs) = fences.split_at_mut(read.len());
+    let lent = inputs.iter_mut().zip(read);
+    let lent: Vec<&[f64]> = lent
+        .map(|(fence, numbers)| &*fence.lend(numbers, flush))
+        .collect();
+    let room = outputs.iter_mut().zip(written);
+    let mut room: Vec<&mut [f64]> = room
+        .map(|(fence, length)| fence.lend(&vec![BEFORE; *length], flush))
+        .collect();
+    let told = ask(&lent, &mut room);
+    (told, room.iter().map(|output| bits(output)).collect())
+}
+
 /// Each slice in turn at each length, the others as given, and then all at one length. `whole` says whether the lengths, in the
 /// order of the slices, are sound.
 fn every_length(read: &[Vec<f64>], written: &[usize], ask: Ask, whole: &dyn Fn(&[usize]) -> bool) {
@@ -87,6 +112,8 @@ fn every_length(read: &[Vec<f64>], written: &[usize], ask: Ask, whole: &dyn Fn(&
         .map(Vec::len)
         .chain(written.iter().copied())
         .collect();
+    let fence = |length: &usize| Fenced::new(8 * length.max(&64));
+    let mut fences: Vec<Fenced> = given.iter().map(fence).collect();
     for length in 0..=64 {
         for slice in 0..=given.len() {
             let mut lengths = given.clone();
@@ -94,13 +121,13 @@ fn every_length(read: &[Vec<f64>], written: &[usize], ask: Ask, whole: &dyn Fn(&
                 Some(one) => *one = length,
                 None => lengths.fill(length),
             }
-            one_length(read, &lengths, ask, whole(&lengths));
+            one_length(read, &lengths, &mut fences, ask, whole(&lengths));
         }
     }
-    one_length(read, &given, ask, true);
+    one_length(read, &given, &mut fences, ask, true);
 }
 
-fn one_length(read: &[Vec<f64>], lengths: &[usize], ask: Ask, whole: bool) {
+fn one_length(read: &[Vec<f64>], lengths: &[usize], fences: &mut [Fenced], ask: Ask, whole: bool) {
     let repeated = |(numbers, length): (&Vec<f64>, &usize)| {
         numbers.iter().copied().cycle().take(*length).collect()
     };
@@ -120,6 +147,10 @@ fn one_length(read: &[Vec<f64>], lengths: &[usize], ask: Ask, whole: bool) {
         answers.iter().all(|answer| *answer == answers[0]),
         "lengths {lengths:?}: read outside"
     );
+    for flush in FLUSHES {
+        let answer = fenced(&inputs, written, flush, fences, ask);
+        assert_eq!(answer, answers[0], "lengths {lengths:?}: elsewhere");
+    }
 }
 
 fn pose_numbers() -> Vec<f64> {
@@ -142,6 +173,24 @@ fn of_numbers() {
         &|r, w| flat::arctangents(r[0], r[1], w[0]),
         &same,
     );
+}
+
+/// The answer that is lent alone, where it is written and where it is kept.
+#[test]
+fn of_one_answer() {
+    let mut fence = Fenced::new(8);
+    for (flush, x) in FLUSHES
+        .iter()
+        .flat_map(|flush| [(*flush, 0.25), (*flush, 900.0)])
+    {
+        let arctangent = |y, answer: &mut f64| flat::arctangent(y, 1.0, answer);
+        for ask in [flat::sine, flat::cosine, flat::arccosine, arctangent] {
+            let mut elsewhere = BEFORE;
+            let told = ask(x, &mut elsewhere);
+            let lent = fence.lend(&[BEFORE], flush);
+            assert_eq!((ask(x, &mut lent[0]), lent[0]), (told, elsewhere));
+        }
+    }
 }
 
 #[test]
@@ -278,163 +327,4 @@ fn of_cable_number() {
         let joints = vec![1.0, 2.0, 3.0, -400.0, 720.0];
         every_length(&[joints], &[], ask, &|l| l[0].is_multiple_of(5));
     }
-}
-
-/// Bytes among guard bytes, and what a call says of them.
-fn of_bytes(bytes: &[u8], ask: &dyn Fn(&[u8]) -> Told) -> Told {
-    let answers = [0u8, 1, 255].map(|guard| {
-        let around = [guard; 13];
-        let all = [&around, bytes, &around].concat();
-        let told = ask(&all[13..13 + bytes.len()]);
-        assert_eq!(all, [&around, bytes, &around].concat());
-        told
-    });
-    assert!(
-        answers.iter().all(|told| *told == answers[0]),
-        "read outside"
-    );
-    answers[0]
-}
-
-#[test]
-fn of_chains() {
-    let long = [tables().bytes(), vec![0; 20]].concat();
-    for length in 0..=196 {
-        let told = of_bytes(&long[..length], &flat::check_chain);
-        assert_eq!(
-            (told.number, told.at),
-            (if length == 176 { 0 } else { 29 }, 0),
-            "length {length}"
-        );
-    }
-}
-
-#[test]
-fn of_chains_with_a_cable() {
-    let long = [tables().bytes(), vec![0; 20]].concat();
-    for length in 0..=196 {
-        let told = of_bytes(&long[..length], &|chain| {
-            let mut number = 9;
-            let told = flat::cable_number(chain, &[0.0, 0.0, 0.0, 360.0, 0.0], 0, &mut number);
-            assert_eq!(number, if told.number == 0 { 1 } else { 9 });
-            told
-        });
-        let expected = if length == 176 { 0 } else { 29 };
-        assert_eq!((told.number, told.at), (expected, 0), "length {length}");
-    }
-}
-
-const PARTS: JobParts = JobParts {
-    chain_at: 9,
-    poses_at: 9,
-    count: 9,
-    cone: BEFORE,
-    chord: BEFORE,
-    axis: BEFORE,
-};
-
-/// What the reader of `tools/job` says: the number and its place, and the parts where there is a job.
-fn read_apart(bytes: &[u8]) -> (u32, u64, JobParts) {
-    match job::read(bytes) {
-        Err(breach) => (breach.number, breach.at as u64, PARTS),
-        Ok(job) => {
-            let parts = JobParts {
-                chain_at: job.chain.start as u64,
-                poses_at: job.poses.start as u64,
-                count: (job.poses.len() / job::POSE) as u64,
-                cone: job.cone,
-                chord: job.chord,
-                axis: job.axis,
-            };
-            (0, 0, parts)
-        }
-    }
-}
-
-/// Both calls on a job's bytes. The poses have space for those of every job here.
-fn job_read(bytes: &[u8]) {
-    let (number, at, expected) = read_apart(bytes);
-    let expected_told = Told {
-        number,
-        at,
-        ..Told::default()
-    };
-    let told = of_bytes(bytes, &|job| {
-        let mut parts = PARTS;
-        let told = flat::read_job(job, &mut parts);
-        assert_eq!(parts, expected, "length {}", job.len());
-        told
-    });
-    assert_eq!(told, expected_told, "length {}", bytes.len());
-    let told = of_bytes(bytes, &|job| {
-        let mut poses = [BEFORE; 18];
-        let told = flat::job_poses(job, &mut poses);
-        let kept = poses.iter().all(|number| *number == BEFORE);
-        assert_eq!(kept, told.number != 0);
-        told
-    });
-    assert_eq!(told, expected_told, "length {}", bytes.len());
-}
-
-/// A job's bytes cut at each end, and zero bytes: what stands last is taken for the trailer.
-#[test]
-fn of_jobs() {
-    let job = job_bytes(&tables(), &arc(2));
-    for length in 0..=job.len() {
-        job_read(&job[..length]);
-        job_read(&job[job.len() - length..]);
-        job_read(&vec![0; length]);
-    }
-    assert_eq!(read_apart(&job).2.count, 2);
-    for most in [65_535, 65_536, 65_537] {
-        job_read(&[vec![0; most - 40], job[job.len() - 40..].to_vec()].concat());
-        let apart = vec![0; most - job.len()];
-        let (front, trailer) = job.split_at(job.len() - 40);
-        let long = [front, &apart, trailer].concat();
-        job_read(&long);
-        assert_eq!(read_apart(&long).0, if most > 65_536 { 29 } else { 0 });
-    }
-}
-
-#[test]
-fn of_names_and_models() {
-    let chain = tables().bytes();
-    let joints = [0.0; 5];
-    for length in 0..=300 {
-        let told = of_bytes(&vec![b'n'; length], &|name| {
-            flat::check_model(name, &chain, &[])
-        });
-        assert_eq!(
-            told.number,
-            [0, 1, 2][usize::from(length == 0) + 2 * usize::from(length > 256)]
-        );
-    }
-    let column = [
-        b"\x04\0post\x04\0base\0".to_vec(),
-        [0.0, 0.0, 0.0, 1.0, 1.0, 1.0, 0.0, 0.0]
-            .map(f64::to_le_bytes)
-            .concat(),
-    ]
-    .concat();
-    for length in 0..=column.len() {
-        let told = of_bytes(&column[..length], &|model| {
-            flat::check_model(b"mill", &chain, model)
-        });
-        assert_eq!(
-            told.number,
-            if length == 0 || length == column.len() {
-                0
-            } else {
-                29
-            }
-        );
-        let carrier = of_bytes(&column[..length], &|carrier| {
-            flat::link_world(b"mill", &chain, &[], &joints, carrier, &mut [0.0; 12])
-        });
-        assert_eq!(carrier.number, 12);
-    }
-    let named = of_bytes(b"table", &|carrier| {
-        flat::link_world(b"mill", &chain, &column, &joints, carrier, &mut [0.0; 12])
-    });
-    assert_eq!(named.number, 0);
 }

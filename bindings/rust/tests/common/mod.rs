@@ -1,6 +1,8 @@
-//! Chains and poses that the tests share.
+//! Chains, poses and memory that the tests share.
 
 #![allow(dead_code)]
+
+pub mod fenced;
 
 use maztubel::{Carrier, Chain, Limits, Pose, Rotary};
 

@@ -1,7 +1,8 @@
 //! Inverse through the export, which reads and checks the chain in each call, beside the untouched Rust's, which checks it too.
 
-use super::forwards::{MACHINES, TOOL_LENGTH, chain, joint_set, lean_forward};
-use super::{COUNT, best_of, row};
+use super::forwards::{COUNT, MACHINES, TOOL_LENGTH, TWO_TABLES, chain, joint_sets, lean_forward};
+use crate::rows::{GROWN, Row, Section};
+use crate::timing::of_both;
 use oracle::chains::Chain;
 use oracle::lean::Lean;
 use oracle::maztubel::{self, Asked};
@@ -9,39 +10,57 @@ use oracle::random::Random;
 use oracle::rust::{Machine, untouched};
 use std::hint::black_box;
 
-const ROUNDS: usize = 60;
+const CALLS: usize = 60 * COUNT;
 const HINT: [f64; 2] = [0.0; 2];
 /// All five turns of each angle lie within them.
 const WIDE: [f64; 2] = [-1000.0, 1000.0];
 
-pub fn print(random: &mut Random) {
-    println!("the same of inverse, best of {ROUNDS} rounds over {COUNT} poses");
-    let joints: Vec<[f64; 5]> = (0..COUNT).map(|_| joint_set(random)).collect();
-    for (words, carriers) in MACHINES {
-        both(&format!("inverse, {words}"), &chain(carriers), &joints);
-    }
-    let (words, carriers) = MACHINES[2];
-    let mut wide = chain(carriers);
+pub fn section() -> Section {
+    let row = |(words, carriers)| Row {
+        chief: (words, carriers) == TWO_TABLES,
+        ..beside(words, &chain(carriers), COUNT)
+    };
+    let mut rows = MACHINES.map(row).to_vec();
+    let mut wide = chain(TWO_TABLES.1);
     for rotary in &mut wide.rotaries {
         (rotary.limited, rotary.limits) = (1, WIDE);
     }
-    both(&format!("inverse, {words}, 50 sets"), &wide, &joints);
+    rows.push(beside(
+        "two rotaries, tables, limits that give 50 joint sets",
+        &wide,
+        COUNT,
+    ));
+    Section {
+        title: "Inverse",
+        unit: "Best of 60 rounds over 4,096 poses, ns a call, the hint zero:",
+        other: "Rust",
+        rows,
+    }
 }
 
-fn both(words: &str, chain: &Chain, joints: &[[f64; 5]]) {
+pub fn grown() -> Vec<Row> {
+    let (words, carriers) = TWO_TABLES;
+    let row = |count| beside(words, &chain(carriers), count);
+    GROWN.map(row).to_vec()
+}
+
+fn beside(words: &str, chain: &Chain, count: usize) -> Row {
     let lean = Lean::new(chain);
+    let joints = joint_sets(count, &mut Random::new(5));
     let poses = joints.iter().map(|set| lean_forward(&lean, set));
     let poses: Vec<[f64; 6]> = poses
         .map(|([x, y, z], [i, j, k])| [x, y, z, i, j, k])
         .collect();
-    row(words, exported(chain, &poses), rusts(chain, &poses));
+    let (port, rust) = (exported(chain, &poses), rusts(chain, &poses));
+    let [port, rust] = of_both(CALLS, count, port, rust);
+    Row::new("inverse", words, count, port, rust)
 }
 
-fn exported(chain: &Chain, poses: &[[f64; 6]]) -> f64 {
+fn exported(chain: &Chain, poses: &[[f64; 6]]) -> impl FnMut() {
     let chain = chain.bytes();
     let mut list = [0.0; 250];
     let (mut count, mut at, mut letter) = (0, 0, 0);
-    best_of(ROUNDS, || {
+    move || {
         let told = poses.iter().map(|pose| {
             let asked = Asked {
                 chain: &chain,
@@ -54,10 +73,10 @@ fn exported(chain: &Chain, poses: &[[f64; 6]]) -> f64 {
             told
         });
         assert_eq!(told.sum::<u32>(), 0, "a pose was refused");
-    })
+    }
 }
 
-fn rusts(chain: &Chain, poses: &[[f64; 6]]) -> f64 {
+fn rusts(chain: &Chain, poses: &[[f64; 6]]) -> impl FnMut() {
     let rust = untouched::kinematics(&Machine {
         name_length: 1,
         chain,
@@ -67,10 +86,10 @@ fn rusts(chain: &Chain, poses: &[[f64; 6]]) -> f64 {
         .iter()
         .map(|pose| untouched::tool_pose(pose))
         .collect();
-    best_of(ROUNDS, || {
+    move || {
         for pose in &poses {
             let sets = rust.inverse(pose, TOOL_LENGTH, HINT);
             black_box(sets.expect("joint sets"));
         }
-    })
+    }
 }

@@ -1,0 +1,219 @@
+//! Every slice of bytes of every entry, cut and stretched, among guard bytes and with either end against memory that may not be
+//! touched. A call answers alike wherever the bytes stand, and reads and writes none outside.
+
+mod common;
+
+use common::fenced::{FLUSHES, Fenced};
+use common::*;
+use maztubel::flat::{self, JobParts, Told};
+
+/// What stands before a call in an output.
+const BEFORE: f64 = 7.25;
+
+/// What a call says of the bytes.
+fn of_bytes(bytes: &[u8], fence: &mut Fenced, ask: &dyn Fn(&[u8]) -> Told) -> Told {
+    let answers = [0u8, 1, 255].map(|guard| {
+        let around = [guard; 13];
+        let all = [&around, bytes, &around].concat();
+        let told = ask(&all[13..13 + bytes.len()]);
+        assert_eq!(all, [&around, bytes, &around].concat());
+        told
+    });
+    assert!(
+        answers.iter().all(|told| *told == answers[0]),
+        "read outside"
+    );
+    for flush in FLUSHES {
+        let lent = fence.lend(bytes, flush);
+        assert_eq!(ask(lent), answers[0], "elsewhere");
+        assert_eq!(lent, bytes, "bytes that are read were written");
+    }
+    answers[0]
+}
+
+const JOINTS: [f64; 5] = [0.0, 0.0, 0.0, 360.0, 0.0];
+const POSE: [f64; 6] = [1.0, 2.0, 3.0, 0.0, 0.0, 1.0];
+const NAME: &[u8] = b"mill";
+
+/// An entry with its name, as a call on a chain's bytes.
+type OfAChain = (&'static str, fn(&[u8]) -> Told);
+
+/// Every entry that reads a chain, the rest sound.
+const OF_A_CHAIN: [OfAChain; 11] = [
+    ("check_chain", flat::check_chain),
+    ("forward", |chain| {
+        flat::forward(chain, &JOINTS, 10.0, &mut [0.0; 6])
+    }),
+    ("inverse", |chain| {
+        flat::inverse(chain, &POSE, 10.0, &[0.0; 2], &mut [0.0; 250])
+    }),
+    ("choose", |chain| {
+        let first = flat::FIRST_POSITIVE;
+        flat::choose(chain, &POSE, 10.0, first, &[0.0; 2], &mut [0.0; 5])
+    }),
+    ("check_model", |chain| flat::check_model(NAME, chain, &[])),
+    ("link_world", |chain| {
+        flat::link_world(NAME, chain, &[], &JOINTS, b"table", &mut [0.0; 12])
+    }),
+    ("link_in_part", |chain| {
+        flat::link_in_part(NAME, chain, &[], &JOINTS, b"head", &mut [0.0; 12])
+    }),
+    ("solve_path", |chain| {
+        flat::solve_path(chain, &POSE, &[], 1.0, &mut [0.0; 5])
+    }),
+    ("subdivide_path", |chain| {
+        let (poses, joints) = (&mut [0.0; 6], &mut [0.0; 5]);
+        flat::subdivide_path(chain, &POSE, &JOINTS, 1.0, 1.0, poses, joints)
+    }),
+    ("solve_and_divide", |chain| {
+        let (poses, joints) = (&mut [0.0; 6], &mut [0.0; 5]);
+        flat::solve_and_divide(chain, &POSE, &[], 1.0, 1.0, 1.0, poses, joints)
+    }),
+    ("cable_number", |chain| {
+        let mut number = 9;
+        let told = flat::cable_number(chain, &JOINTS, 0, &mut number);
+        assert_eq!(number, if told.number == 0 { 1 } else { 9 });
+        told
+    }),
+];
+
+/// With another count of rotaries there is nothing to read behind it, and the chain check refuses the count.
+#[test]
+fn of_chains() {
+    let mut fence = Fenced::new(200);
+    for (count, whole) in [(1, Some(104)), (2, Some(176)), (0, None), (3, None)] {
+        let mut long = if count == 1 { table_a() } else { tables() }.bytes();
+        long.resize(196, 0);
+        long[0] = count;
+        for length in 0..=long.len() {
+            let expected = match whole {
+                Some(whole) if length == whole => 0,
+                None if length > 0 => 3,
+                _ => 29,
+            };
+            for (words, ask) in OF_A_CHAIN {
+                let told = of_bytes(&long[..length], &mut fence, &ask);
+                let place = format!("{words}, {count} rotaries, length {length}");
+                assert_eq!((told.number, told.at), (expected, 0), "{place}");
+            }
+        }
+    }
+}
+
+const PARTS: JobParts = JobParts {
+    chain_at: 9,
+    poses_at: 9,
+    count: 9,
+    cone: BEFORE,
+    chord: BEFORE,
+    axis: BEFORE,
+};
+
+/// What the reader of `tools/job` says: the number and its place, and the parts where there is a job.
+fn read_apart(bytes: &[u8]) -> (u32, u64, JobParts) {
+    match job::read(bytes) {
+        Err(breach) => (breach.number, breach.at as u64, PARTS),
+        Ok(job) => {
+            let parts = JobParts {
+                chain_at: job.chain.start as u64,
+                poses_at: job.poses.start as u64,
+                count: (job.poses.len() / job::POSE) as u64,
+                cone: job.cone,
+                chord: job.chord,
+                axis: job.axis,
+            };
+            (0, 0, parts)
+        }
+    }
+}
+
+/// Both calls on a job's bytes. The poses have space for those of every job here.
+fn job_read(bytes: &[u8], fence: &mut Fenced) {
+    let (number, at, expected) = read_apart(bytes);
+    let expected_told = Told {
+        number,
+        at,
+        ..Told::default()
+    };
+    let told = of_bytes(bytes, fence, &|job| {
+        let mut parts = PARTS;
+        let told = flat::read_job(job, &mut parts);
+        assert_eq!(parts, expected, "length {}", job.len());
+        told
+    });
+    assert_eq!(told, expected_told, "length {}", bytes.len());
+    let told = of_bytes(bytes, fence, &|job| {
+        let mut poses = [BEFORE; 18];
+        let told = flat::job_poses(job, &mut poses);
+        let kept = poses.iter().all(|number| *number == BEFORE);
+        assert_eq!(kept, told.number != 0);
+        told
+    });
+    assert_eq!(told, expected_told, "length {}", bytes.len());
+}
+
+/// A job's bytes cut at each end, and zero bytes: what stands last is taken for the trailer.
+#[test]
+fn of_jobs() {
+    let fence = &mut Fenced::new(65_537);
+    let job = job_bytes(&tables(), &arc(2));
+    for length in 0..=job.len() {
+        job_read(&job[..length], fence);
+        job_read(&job[job.len() - length..], fence);
+        job_read(&vec![0; length], fence);
+    }
+    assert_eq!(read_apart(&job).2.count, 2);
+    for most in [65_535, 65_536, 65_537] {
+        let alone = [vec![0; most - 40], job[job.len() - 40..].to_vec()].concat();
+        job_read(&alone, fence);
+        let apart = vec![0; most - job.len()];
+        let (front, trailer) = job.split_at(job.len() - 40);
+        let long = [front, &apart, trailer].concat();
+        job_read(&long, fence);
+        assert_eq!(read_apart(&long).0, if most > 65_536 { 29 } else { 0 });
+    }
+}
+
+#[test]
+fn of_names_and_models() {
+    let fence = &mut Fenced::new(300);
+    let chain = tables().bytes();
+    let joints = [0.0; 5];
+    for length in 0..=300 {
+        let told = of_bytes(&vec![b'n'; length], fence, &|name| {
+            flat::check_model(name, &chain, &[])
+        });
+        assert_eq!(
+            told.number,
+            [0, 1, 2][usize::from(length == 0) + 2 * usize::from(length > 256)]
+        );
+    }
+    let column = [
+        b"\x04\0post\x04\0base\0".to_vec(),
+        [0.0, 0.0, 0.0, 1.0, 1.0, 1.0, 0.0, 0.0]
+            .map(f64::to_le_bytes)
+            .concat(),
+    ]
+    .concat();
+    for length in 0..=column.len() {
+        let told = of_bytes(&column[..length], fence, &|model| {
+            flat::check_model(b"mill", &chain, model)
+        });
+        assert_eq!(
+            told.number,
+            if length == 0 || length == column.len() {
+                0
+            } else {
+                29
+            }
+        );
+        let carrier = of_bytes(&column[..length], fence, &|carrier| {
+            flat::link_world(b"mill", &chain, &[], &joints, carrier, &mut [0.0; 12])
+        });
+        assert_eq!(carrier.number, 12);
+    }
+    let named = of_bytes(b"table", fence, &|carrier| {
+        flat::link_world(b"mill", &chain, &column, &joints, carrier, &mut [0.0; 12])
+    });
+    assert_eq!(named.number, 0);
+}
