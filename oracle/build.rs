@@ -1,12 +1,10 @@
-//! Links the archives that `rt staticlib` wrote to target/staticlib/ of the repository, and copies the Rust that is compared,
-//! where it stands beside the repository, for `src/original.rs` to include. The cfg `original` says whether it does.
+//! Links the archive of `probe` that `rt staticlib` wrote to target/staticlib/ of the repository (that of `maztubel` comes with
+//! bindings/rust), and copies the Rust that is compared, where it stands beside the repository, for `src/original.rs` to include.
+//! The cfg `original` says whether it does.
 
 use std::path::{Path, PathBuf};
 use std::process::exit;
 use std::{env, fs};
-
-/// The crates whose exports are compared, by name.
-const ARCHIVES: [&str; 2] = ["maztubel", "probe"];
 
 /// The files of the Rust that are compared.
 const FILES: [&str; 4] = ["check", "geom", "kinematics", "rotary"];
@@ -91,7 +89,7 @@ impl Kinematics {
 
 fn main() {
     let root = Path::new(env!("CARGO_MANIFEST_DIR"));
-    link_archives(&root.join("../target/staticlib"));
+    link_probe(&root.join("../target/staticlib"));
     println!("cargo::rustc-check-cfg=cfg(original)");
     let sources = root.join("../../shared/docs/src/crates/ir/src");
     println!("cargo::rerun-if-changed={}", sources.display());
@@ -103,19 +101,17 @@ fn main() {
     }
 }
 
-fn link_archives(folder: &Path) {
+fn link_probe(folder: &Path) {
+    let archive = folder.join("libprobe.a");
     println!("cargo::rustc-link-search=native={}", folder.display());
-    for name in ARCHIVES {
-        let archive = folder.join(format!("lib{name}.a"));
-        println!("cargo::rerun-if-changed={}", archive.display());
-        if !archive.is_file() {
-            println!(
-                "cargo::error=target/staticlib/lib{name}.a is missing: run `rt staticlib {name}` in the repository's root first"
-            );
-            exit(1);
-        }
-        println!("cargo::rustc-link-lib=static={name}");
+    println!("cargo::rerun-if-changed={}", archive.display());
+    if !archive.is_file() {
+        println!(
+            "cargo::error=target/staticlib/libprobe.a is missing: run `rt staticlib probe` in the repository's root first"
+        );
+        exit(1);
     }
+    println!("cargo::rustc-link-lib=static=probe");
 }
 
 /// Writes each file as a module of `original::NAME`, and a file that declares them.

@@ -1,10 +1,11 @@
 //! Every entry of the static library over plain numbers and bytes, safe, as include/maztubel.h has it: a slice for each pointer
 //! with its length, the lent numbers in the answer. Slices of any length may be lent: broken records are 20.
 //!
-//! The one module with unsafe code.
+//! The one module with unsafe code, beside the declarations that it calls.
 
 use crate::model::Frame;
 use crate::pose::{Joints, Pose};
+use crate::raw::*;
 use crate::refusal::Refusal;
 use std::slice;
 
@@ -90,203 +91,6 @@ fn count<R>(records: &[R]) -> usize {
     size_of_val(records) / size_of::<f64>()
 }
 
-// Each is total (its contract has no `requires`): what it is lent has to be there, and nothing else.
-unsafe extern "C" {
-    fn maztubel_sine(x: f64, answer: &mut f64) -> u32;
-    fn maztubel_cosine(x: f64, answer: &mut f64) -> u32;
-    fn maztubel_arctangent(y: f64, x: f64, answer: &mut f64) -> u32;
-    fn maztubel_arccosine(c: f64, answer: &mut f64) -> u32;
-    fn maztubel_sines(
-        xs: *const f64,
-        xs_length: usize,
-        answers: *mut f64,
-        answers_length: usize,
-    ) -> u32;
-    fn maztubel_cosines(
-        xs: *const f64,
-        xs_length: usize,
-        answers: *mut f64,
-        answers_length: usize,
-    ) -> u32;
-    fn maztubel_arctangents(
-        ys: *const f64,
-        ys_length: usize,
-        xs: *const f64,
-        xs_length: usize,
-        answers: *mut f64,
-        answers_length: usize,
-    ) -> u32;
-    fn maztubel_arccosines(
-        cs: *const f64,
-        cs_length: usize,
-        answers: *mut f64,
-        answers_length: usize,
-    ) -> u32;
-    fn maztubel_check_chain(
-        chain: *const u8,
-        chain_length: usize,
-        at: &mut u64,
-        letter: &mut u8,
-    ) -> u32;
-    fn maztubel_forward(
-        chain: *const u8,
-        chain_length: usize,
-        joints: *const f64,
-        joints_length: usize,
-        tool_length: f64,
-        pose: *mut f64,
-        pose_length: usize,
-        at: &mut u64,
-        letter: &mut u8,
-    ) -> u32;
-    fn maztubel_inverse(
-        chain: *const u8,
-        chain_length: usize,
-        pose: *const f64,
-        pose_length: usize,
-        tool_length: f64,
-        hint: *const f64,
-        hint_length: usize,
-        list: *mut f64,
-        list_length: usize,
-        count: &mut u64,
-        at: &mut u64,
-        letter: &mut u8,
-    ) -> u32;
-    fn maztubel_choose(
-        chain: *const u8,
-        chain_length: usize,
-        pose: *const f64,
-        pose_length: usize,
-        tool_length: f64,
-        choice: u32,
-        hint: *const f64,
-        hint_length: usize,
-        joints: *mut f64,
-        joints_length: usize,
-        at: &mut u64,
-        letter: &mut u8,
-    ) -> u32;
-    fn maztubel_check_model(
-        name: *const u8,
-        name_length: usize,
-        chain: *const u8,
-        chain_length: usize,
-        model: *const u8,
-        model_length: usize,
-        at: &mut u64,
-        letter: &mut u8,
-    ) -> u32;
-    fn maztubel_link_world(
-        name: *const u8,
-        name_length: usize,
-        chain: *const u8,
-        chain_length: usize,
-        model: *const u8,
-        model_length: usize,
-        joints: *const f64,
-        joints_length: usize,
-        carrier: *const u8,
-        carrier_length: usize,
-        frame: *mut f64,
-        frame_length: usize,
-        at: &mut u64,
-        letter: &mut u8,
-    ) -> u32;
-    fn maztubel_link_in_part(
-        name: *const u8,
-        name_length: usize,
-        chain: *const u8,
-        chain_length: usize,
-        model: *const u8,
-        model_length: usize,
-        joints: *const f64,
-        joints_length: usize,
-        carrier: *const u8,
-        carrier_length: usize,
-        frame: *mut f64,
-        frame_length: usize,
-        at: &mut u64,
-        letter: &mut u8,
-    ) -> u32;
-    fn maztubel_solve_path(
-        chain: *const u8,
-        chain_length: usize,
-        poses: *const f64,
-        poses_length: usize,
-        start: *const f64,
-        start_length: usize,
-        cone: f64,
-        joints: *mut f64,
-        joints_length: usize,
-        at: &mut u64,
-        letter: &mut u8,
-    ) -> u32;
-    fn maztubel_subdivide_path(
-        chain: *const u8,
-        chain_length: usize,
-        poses: *const f64,
-        poses_length: usize,
-        joints: *const f64,
-        joints_length: usize,
-        chord: f64,
-        axis: f64,
-        out_poses: *mut f64,
-        out_poses_length: usize,
-        out_joints: *mut f64,
-        out_joints_length: usize,
-        inserted: &mut u64,
-        at: &mut u64,
-        letter: &mut u8,
-    ) -> u32;
-    fn maztubel_solve_and_divide(
-        chain: *const u8,
-        chain_length: usize,
-        poses: *const f64,
-        poses_length: usize,
-        start: *const f64,
-        start_length: usize,
-        cone: f64,
-        chord: f64,
-        axis: f64,
-        out_poses: *mut f64,
-        out_poses_length: usize,
-        out_joints: *mut f64,
-        out_joints_length: usize,
-        inserted: &mut u64,
-        at: &mut u64,
-        letter: &mut u8,
-    ) -> u32;
-    fn maztubel_read_job(
-        job: *const u8,
-        job_length: usize,
-        chain_at: &mut u64,
-        poses_at: &mut u64,
-        count: &mut u64,
-        cone: &mut f64,
-        chord: &mut f64,
-        axis: &mut f64,
-        at: &mut u64,
-    ) -> u32;
-    fn maztubel_job_poses(
-        job: *const u8,
-        job_length: usize,
-        poses: *mut f64,
-        poses_length: usize,
-        at: &mut u64,
-    ) -> u32;
-    fn maztubel_cable_number(
-        chain: *const u8,
-        chain_length: usize,
-        joints: *const f64,
-        joints_length: usize,
-        rotary: u64,
-        number: &mut u64,
-        at: &mut u64,
-        letter: &mut u8,
-    ) -> u32;
-}
-
 /// The sine of x radians: 17 for x outside -800 to 800.
 ///
 /// ```
@@ -297,7 +101,7 @@ unsafe extern "C" {
 /// ```
 pub fn sine(x: f64, answer: &mut f64) -> Told {
     // SAFETY: here and below each pointer goes with its own length, and no two of what is lent overlap.
-    let number = unsafe { maztubel_sine(x, answer) };
+    let number = maztubel_sine(x, answer);
     Told {
         number,
         ..Told::default()
@@ -313,7 +117,7 @@ pub fn sine(x: f64, answer: &mut f64) -> Told {
 /// assert_eq!(answer, 9.0);
 /// ```
 pub fn cosine(x: f64, answer: &mut f64) -> Told {
-    let number = unsafe { maztubel_cosine(x, answer) };
+    let number = maztubel_cosine(x, answer);
     Told {
         number,
         ..Told::default()
@@ -329,7 +133,7 @@ pub fn cosine(x: f64, answer: &mut f64) -> Told {
 /// assert_eq!(answer, 0.0);
 /// ```
 pub fn arctangent(y: f64, x: f64, answer: &mut f64) -> Told {
-    let number = unsafe { maztubel_arctangent(y, x, answer) };
+    let number = maztubel_arctangent(y, x, answer);
     Told {
         number,
         ..Told::default()
@@ -344,7 +148,7 @@ pub fn arctangent(y: f64, x: f64, answer: &mut f64) -> Told {
 /// assert_eq!(flat::arccosine(2.0, &mut answer).number, 17);
 /// ```
 pub fn arccosine(c: f64, answer: &mut f64) -> Told {
-    let number = unsafe { maztubel_arccosine(c, answer) };
+    let number = maztubel_arccosine(c, answer);
     Told {
         number,
         ..Told::default()

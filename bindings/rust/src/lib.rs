@@ -28,7 +28,8 @@
 //! argument: what cannot be served is refused with a [`Refusal`], whose number is that of the repository's price list.
 //!
 //! A function that answers a `Vec` has a sibling that ends in `_into` and writes to slices of the caller's. [`flat`] has
-//! every entry over plain numbers and bytes, as C sees it; it is the one module with unsafe code.
+//! every entry over plain numbers and bytes, as C sees it; it is the one module with unsafe code. [`raw`] has the declarations that
+//! it calls.
 
 #![deny(unsafe_code)]
 #![warn(missing_docs)]
@@ -41,6 +42,8 @@ mod job;
 mod model;
 mod path;
 mod pose;
+#[allow(unsafe_code, missing_docs)]
+pub mod raw;
 mod refusal;
 mod trig;
 
