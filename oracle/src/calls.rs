@@ -2,7 +2,7 @@
 //! guards that no call may write to.
 
 use crate::cases::{Case, Entry};
-use crate::maztubel;
+use crate::maztubel::{self, Machine};
 use crate::reference::Answer;
 use std::fmt;
 
@@ -91,35 +91,41 @@ pub fn ask(entry: Entry, case: &Case) -> Told {
     let mut at = [LENT_AT; 3];
     let mut letter = [LENT_LETTER; 3];
     let mut numbers = vec![f64::from_bits(LENT); room(entry, case)];
-    let (at_slot, letter_slot) = (&mut at[1], &mut letter[1]);
     let end = numbers.len() - GUARD;
     let lent = &mut numbers[GUARD..end];
-    let number = match entry {
-        Entry::CheckChain => maztubel::check_chain(&case.chain, at_slot, letter_slot),
-        Entry::CheckModel => maztubel::check_model(case.machine(), at_slot, letter_slot),
-        Entry::Forward => maztubel::forward(
-            &case.chain,
-            &case.joints,
-            case.tool_length,
-            lent,
-            at_slot,
-            letter_slot,
-        ),
-        Entry::LinkWorld | Entry::LinkInPart => {
-            let frame_of: maztubel::FrameOf = match entry {
-                Entry::LinkWorld => maztubel::link_world,
-                _ => maztubel::link_in_part,
-            };
-            let (joints, carrier) = (&case.joints, &case.carrier);
-            frame_of(case.machine(), joints, carrier, lent, at_slot, letter_slot)
-        }
-    };
+    let number = call(entry, case, lent, &mut at[1], &mut letter[1]);
     Told {
         number,
         at,
         letter,
         numbers: numbers.iter().map(|x| x.to_bits()).collect(),
     }
+}
+
+/// Each input stands between guards too, and all must stand as it did afterwards.
+fn call(entry: Entry, case: &Case, lent: &mut [f64], at: &mut u64, letter: &mut u8) -> u32 {
+    let bytes = [&case.name, &case.chain, &case.model, &case.carrier];
+    let bytes = bytes.map(|bytes| Guarded::bytes(bytes));
+    let joints = Guarded::numbers(&case.joints);
+    let [name, chain, model, carrier] = bytes.each_ref().map(Guarded::inner);
+    let machine = Machine { name, chain, model };
+    let number = match entry {
+        Entry::CheckChain => maztubel::check_chain(chain, at, letter),
+        Entry::CheckModel => maztubel::check_model(machine, at, letter),
+        Entry::Forward => {
+            let tool_length = case.tool_length;
+            maztubel::forward(chain, joints.inner(), tool_length, lent, at, letter)
+        }
+        Entry::LinkWorld => {
+            maztubel::link_world(machine, joints.inner(), carrier, lent, at, letter)
+        }
+        Entry::LinkInPart => {
+            maztubel::link_in_part(machine, joints.inner(), carrier, lent, at, letter)
+        }
+    };
+    let kept = joints.kept() && bytes.iter().all(Guarded::<u8>::kept);
+    assert!(kept, "an input was written to: {case}");
+    number
 }
 
 /// What the call tells where it answers as it must.

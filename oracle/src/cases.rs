@@ -2,7 +2,6 @@
 
 use crate::chains::{chain_bytes, sound};
 use crate::joints::{joints, sound_joints, sound_tool_length, tool_length};
-use crate::maztubel::Machine;
 use crate::models::{self, carrier, model_bytes, name, sound_model};
 use crate::random::Random;
 use std::fmt;
@@ -101,14 +100,6 @@ impl Case {
             carrier: carrier(random),
             room: room(FRAME, random),
             ..Case::default()
-        }
-    }
-
-    pub fn machine(&self) -> Machine<'_> {
-        Machine {
-            name: &self.name,
-            chain: &self.chain,
-            model: &self.model,
         }
     }
 }

@@ -1,10 +1,10 @@
 //! A call of inverse or choose, and what is expected of it: the number, what a refusal names, the count, and every number that was
 //! lent, between guards that no call may write to.
 
-use crate::calls::{GUARD, LENT, LENT_AT, LENT_LETTER};
+use crate::calls::{GUARD, Guarded, LENT, LENT_AT, LENT_LETTER};
 use crate::inverse_cases::{Case, Entry};
 use crate::inverse_reference::Answer;
-use crate::maztubel;
+use crate::maztubel::{self, Asked};
 use std::fmt;
 
 /// What stands in the slot for a count before a call.
@@ -38,18 +38,27 @@ impl fmt::Display for Told {
     }
 }
 
-/// Calls the export.
+/// Calls the export. Each input stands between guards too, and all must stand as it did afterwards.
 pub fn ask(entry: Entry, case: &Case) -> Told {
     let (mut at, mut letter) = ([LENT_AT; 3], [LENT_LETTER; 3]);
     let mut count = [LENT_COUNT; 3];
     let room = case.room(entry);
     let mut numbers = vec![f64::from_bits(LENT); GUARD + room + GUARD];
     let lent = &mut numbers[GUARD..GUARD + room];
-    let asked = case.asked();
+    let chain = Guarded::bytes(&case.chain);
+    let [pose, hint] = [&case.pose, &case.hint].map(|numbers| Guarded::numbers(numbers));
+    let asked = Asked {
+        chain: chain.inner(),
+        pose: pose.inner(),
+        tool_length: case.tool_length,
+        hint: hint.inner(),
+    };
     let number = match entry {
         Entry::Inverse => maztubel::inverse(asked, lent, &mut count[1], &mut at[1], &mut letter[1]),
         Entry::Choose => maztubel::choose(asked, case.choice, lent, &mut at[1], &mut letter[1]),
     };
+    let kept = chain.kept() && pose.kept() && hint.kept();
+    assert!(kept, "an input was written to: {case}");
     Told {
         number,
         at,

@@ -4,7 +4,6 @@
 use crate::angles::{moved, signed, within};
 use crate::chains::{Chain, harmed_bytes};
 use crate::joints::{MOST_ANGLE, sound_tool_length, tool_length};
-use crate::maztubel::Asked;
 use crate::numbers::{damages, not_finite, refused, served};
 use crate::random::Random;
 use crate::reference::bare;
@@ -106,15 +105,6 @@ impl Case {
         (entry.asked_room() as i64)
             .saturating_sub(self.missing)
             .max(0) as usize
-    }
-
-    pub fn asked(&self) -> Asked<'_> {
-        Asked {
-            chain: &self.chain,
-            pose: &self.pose,
-            tool_length: self.tool_length,
-            hint: &self.hint,
-        }
     }
 }
 

@@ -71,9 +71,6 @@ pub struct Machine<'a> {
     pub model: &'a [u8],
 }
 
-/// `link_world` or `link_in_part`.
-pub type FrameOf = fn(Machine, &[f64], &[u8], &mut [f64], &mut u64, &mut u8) -> u32;
-
 pub fn check_chain(chain: &[u8], at: &mut u64, letter: &mut u8) -> u32 {
     unsafe { maztubel_check_chain(chain.as_ptr(), chain.len(), at, letter) }
 }

@@ -1,6 +1,6 @@
 -- An argument is refused exactly where it is out of range, so that a slice form tests each without an evaluation.
-use mathlib.Core.Path.{_≡_, sym, ap, _∙_}
-use mathlib.Core.Bool.{Bool, true, false, not, _&&_}
+use mathlib.Core.Path.{_≡_, ap}
+use mathlib.Core.Bool.{not, _&&_}
 use lib.Dec.{T}
 use lib.Ieee.{Float, binary64, fits}
 use lib.Ieee.Scale.{finite}

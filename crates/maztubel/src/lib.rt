@@ -2,9 +2,9 @@
 // every argument, with 0 or with a refusal's number, and its contract says what every lent number is afterwards.
 //
 // Sine, cosine, arctangent and arccosine, of one argument and of slices. A slice form tests every argument before it writes the
-// first answer, so that a refusal leaves the slice as it was. The entries of a chain stand in chain_entries, those of the
-// inverse map in inverse_entries, those of a model in link_entries, that of a path in
-// path_entries, those that divide in divide_entries, those of a job in job_entries.
+// first answer, so that a refusal leaves the slice as it was. The entries of a chain stand in chain_entries, those of the inverse map
+// in inverse_entries, those of a model in link_entries, that of a path in path_entries, those that divide in divide_entries, those of
+// a job in job_entries; a crate above calls all of them from here.
 mod chain_entries;
 mod divide_entries;
 mod inverse_entries;

@@ -1,5 +1,5 @@
-use mathlib.Core.Path.{sym, ap, _∙_, subst}
-use mathlib.Core.Bool.{Bool, true, false, not, _&&_}
+use mathlib.Core.Path.{sym, ap, subst}
+use mathlib.Core.Bool.{not}
 use lib.Dec.{T}
 use lib.Ieee.{binary64, fits}
 use Rattle.maztubel.proofs.Ranges.{arctangent-ranges}
