@@ -1,4 +1,5 @@
-//! Writes a fixed sample of the Rust's answers over every entry, for the program `replay`, which replays it without the Rust:
+//! Writes a fixed sample of the Rust's answers, over every entry but the slice forms, for the program `replay`, which replays it
+//! without the Rust:
 //!
 //!     replay FOLDER
 //!
