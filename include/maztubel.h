@@ -1,10 +1,33 @@
-/* The exports of the static library maztubel (`rt staticlib maztubel` writes target/staticlib/libmaztubel.a).
+/* Maztubel: the rotary kinematics of a five-axis postprocessor.
  *
- * Every function answers every argument: 0 and its answers are written, or a refusal's number and what it was lent is kept, but
- * where a comment below says that it is cleared. The numbers are those of crates/refusal.
+ * Units are millimetres and degrees; only sine, cosine, arctangent and arccosine use radians. Frames are
+ * right-handed. docs/CONVENTIONS.md has units, frames, pivots, signs and worked machines.
  *
- * A slice is a pointer and then a length, counted in elements. What is lent to one call does not overlap, a pointer is aligned for
- * its element, and NULL goes with the length 0 alone. A lent number is never NULL.
+ * Build: `rt staticlib maztubel` writes target/staticlib/libmaztubel.a, for x86-64 Linux. Link it; of the C library
+ * it uses only memcpy and memset.
+ *
+ * Every function returns 0 and writes its outputs, or returns a refusal number and leaves them unchanged unless
+ * stated. An output is kept if the call leaves it unchanged, and cleared if the call sets every number of it to
+ * +0.0. Each comment below lists the refusals of a function in the order of its checks, each number with what is at
+ * fault; the enum says what must hold. The first that applies is returned.
+ *
+ * Pass valid pointers; every other bad input returns a refusal number.
+ *   - A buffer is a pointer and a length. The length counts elements: bytes of a uint8_t buffer, doubles of a double
+ *     buffer.
+ *   - A pointer is aligned for its element. NULL is valid for a buffer of length 0, and nowhere else.
+ *   - No two buffers or outputs of one call overlap.
+ * The library allocates nothing and keeps no pointer and no state.
+ *
+ * Where a function has *at and *letter, every call writes both:
+ *   3 to 9    *at is the index of the rotary at fault; 0 for the number of rotaries and for the spindle axis
+ *   10 to 13  *at is the index of the link at fault; 0 for the number of links and for a carrier that was asked for
+ *   16, 17    at a pose of a path, *at is the index of the pose
+ *   23 to 26  *at is the index of the pose; with 24, *letter is the letter of the rotary
+ *   29        *at is the offset of the first bad field, in the bytes of the chain, the job or the model
+ * All else is 0. Indices count from 0.
+ *
+ * Start with maztubel_solve_and_divide; examples/c/path.c calls it. docs/SCOPE.md defines the terms and has all
+ * checks and refusals, docs/FORMAT.md has the bytes.
  */
 #ifndef MAZTUBEL_H
 #define MAZTUBEL_H
@@ -16,235 +39,421 @@
 extern "C" {
 #endif
 
+/* What a call returns: 0, or why it was refused, as what must hold. */
 enum {
+    /* the call was served */
     MAZTUBEL_SERVED = 0,
-    /* a name is empty */
+    /* a name must have at least 1 byte */
     MAZTUBEL_NAME_EMPTY = 1,
-    /* a name has more than 256 bytes */
+    /* a name must have at most 256 bytes */
     MAZTUBEL_NAME_TOO_LONG = 2,
-    /* there are not 1 or 2 rotaries */
+    /* a chain must have 1 or 2 rotaries */
     MAZTUBEL_ROTARY_COUNT = 3,
-    /* a rotary's letter is not A, B or C */
+    /* a rotary's letter must be A, B or C */
     MAZTUBEL_ROTARY_LETTER = 4,
-    /* two rotaries have one letter */
+    /* two rotaries must have different letters */
     MAZTUBEL_LETTER_TWICE = 5,
-    /* a component of the chain is not finite */
+    /* a rotary's axis and pivot and the spindle axis must be finite */
     MAZTUBEL_CHAIN_NOT_FINITE = 6,
-    /* a rotary's axis is zero */
+    /* a rotary's axis must have a direction (a component above 1e-15 in size, a length that does not overflow) */
     MAZTUBEL_ROTARY_AXIS_ZERO = 7,
-    /* a rotary's limits are refused */
+    /* a rotary's limits must be finite, the lower below the upper */
     MAZTUBEL_LIMITS_REFUSED = 8,
-    /* the spindle's axis is zero */
+    /* the spindle axis must have a direction (a component above 1e-15 in size, a length that does not overflow) */
     MAZTUBEL_SPINDLE_ZERO = 9,
-    /* a model has more than 64 links */
+    /* a model must have at most 64 links */
     MAZTUBEL_TOO_MANY_LINKS = 10,
-    /* two links have one name */
+    /* the links of a model must have different names */
     MAZTUBEL_LINK_NAME_TWICE = 11,
-    /* a link's carrier is unknown */
+    /* a carrier must be base, table, head or the letter of a rotary of the chain */
     MAZTUBEL_CARRIER_UNKNOWN = 12,
-    /* a link's solid is bad */
+    /* a solid must be finite, a box with max above min in x, y and z, a cylinder with a radius and a length above 0
+     * and an axis that has a direction */
     MAZTUBEL_SOLID_BAD = 13,
-    /* the tool length is refused */
+    /* the tool length must be finite and not below 0 mm */
     MAZTUBEL_TOOL_LENGTH = 14,
-    /* the tool axis is zero */
+    /* the tool axis must have a direction (finite, a component above 1e-15 in size, a length that does not overflow) */
     MAZTUBEL_TOOL_AXIS_ZERO = 15,
-    /* a joint, a hint or a tip is not finite */
+    /* joints, start, hint and tips must be finite, in a division tool axes too */
     MAZTUBEL_NOT_FINITE = 16,
-    /* a size is above its limit */
+    /* sizes must be at most 100,000 mm (tip, pivot, tool length), 10,000,000 mm (joint position), 36,000 degrees
+     * (angle, hint), 100,000 poses, 800 radians (sine, cosine), 1 (arccosine), and finite (arctangent) */
     MAZTUBEL_TOO_LARGE = 17,
-    /* the cone is refused */
+    /* the cone must be finite, above 0 and at most 10 degrees */
     MAZTUBEL_CONE = 18,
-    /* a tolerance is refused */
+    /* the chord tolerance (mm) and the axis tolerance (degrees) must be finite and above 0 */
     MAZTUBEL_TOLERANCE = 19,
-    /* lengths differ, or a buffer has no whole records */
+    /* buffers must hold whole records, lengths that belong together must be equal, and a choice must be 0, 1 or 2 */
     MAZTUBEL_LENGTHS_DIFFER = 20,
-    /* the tool axis is not reachable */
+    /* the rotaries must reach the tool axis */
     MAZTUBEL_NOT_REACHABLE = 21,
-    /* the tool axis is reached outside the rotary limits alone */
+    /* the rotaries must reach the tool axis within their limits, without limits above -180 and at most 180 degrees */
     MAZTUBEL_OUTSIDE_LIMITS = 22,
-    /* a pose flips the rotary branch */
+    /* a pose must keep the rotary branch, its angles at most 90 degrees from the solution closest to the pose before */
     MAZTUBEL_BRANCH_FLIPS = 23,
-    /* a pose leaves the limits of an axis, whose letter is told */
+    /* a pose must keep every rotary within its limits */
     MAZTUBEL_LEAVES_AXIS = 24,
-    /* a pose is unreachable */
+    /* a pose's tool axis must have a direction that the rotaries reach */
     MAZTUBEL_POSE_UNREACHABLE = 25,
-    /* a pose's angle is past 36,000 */
+    /* a pose's angles must be at most 36,000 degrees in size */
     MAZTUBEL_ANGLE_TOO_LARGE = 26,
-    /* an insertion would be the 10,001st */
+    /* a division must insert at most 10,000 poses */
     MAZTUBEL_TOO_MANY_INSERTIONS = 27,
-    /* there is no space for the answer, or for the next pose */
+    /* the outputs must have space for every pose */
     MAZTUBEL_NO_SPACE = 28,
-    /* the bytes of a job or a model are malformed */
+    /* the bytes of a chain, a job or a model must have the form of docs/FORMAT.md */
     MAZTUBEL_MALFORMED = 29
 };
 
-/* The sine of x radians, within 2^-50 of document 01's sum S, for x from -800 to 800; else 17, also for a nan. */
+/* ---- Sine, cosine, arctangent, arccosine, in radians */
+
+/* Writes the sine of x radians, within 2^-50 of the sum S(x) that docs/SCOPE.md defines.
+ * Returns 17 if x is not from -800 to 800, or is a NaN. */
 uint32_t maztubel_sine(double x, double *answer);
 
-/* The cosine of x radians, within 2^-50 of document 01's sum C, for x from -800 to 800; else 17, also for a nan. */
+/* Writes the cosine of x radians, within 2^-50 of the sum C(x) that docs/SCOPE.md defines.
+ * Returns 17 if x is not from -800 to 800, or is a NaN. */
 uint32_t maztubel_cosine(double x, double *answer);
 
-/* The angle of the point (x, y) in radians, from -pi to pi, with the sign of y: atan2, for finite y and x; else 17. */
+/* Writes the angle of the point (x, y) in radians, from -pi to pi and with the sign bit of y, as atan2 does.
+ * Returns 17 if y or x is not finite. */
 uint32_t maztubel_arctangent(double y, double x, double *answer);
 
-/* The angle from 0 to pi whose cosine is c, for c from -1 to 1; else 17, also for a nan. */
+/* Writes the angle in radians, from 0 to pi, whose cosine is c.
+ * Returns 17 if c is not from -1 to 1, or is a NaN. */
 uint32_t maztubel_arccosine(double c, double *answer);
 
-/* The slice forms: answers[i] is what the function above answers for the arguments at i, bit for bit. Lengths that differ are 20;
- * then any argument that is refused makes it 17. Every argument is tested before the first answer is written. */
+/* The next four do the same for every element: answers[i] has the bits that the function above gives for the
+ * arguments at i. Every argument is tested before the first answer is written. Refusals, all of which keep the
+ * answers:
+ *   20  the lengths differ
+ *   17  an argument is refused */
 
-/* The sine of each of xs. */
+/* The sine of each of xs, in radians. */
 uint32_t maztubel_sines(const double *xs, size_t xs_length, double *answers, size_t answers_length);
 
-/* The cosine of each of xs. */
+/* The cosine of each of xs, in radians. */
 uint32_t maztubel_cosines(const double *xs, size_t xs_length, double *answers, size_t answers_length);
 
-/* The angle of each point (xs[i], ys[i]). */
+/* The angle of each point (xs[i], ys[i]), in radians. */
 uint32_t maztubel_arctangents(const double *ys, size_t ys_length, const double *xs, size_t xs_length, double *answers,
                               size_t answers_length);
 
-/* The angle of each of the cosines cs. */
+/* The angle of each cosine of cs, in radians. */
 uint32_t maztubel_arccosines(const double *cs, size_t cs_length, double *answers, size_t answers_length);
 
-/* ---- chains
+/* ---- Chains
  *
- * A chain is bytes, all numbers little-endian: its count of rotaries (1 or 2) in one byte, 7 zero bytes, a record of 72 bytes for
- * each rotary, and the spindle axis as 3 doubles: 104 or 176 bytes. A record: the letter, the carrier (0 a table, 1 a head),
- * whether it has limits (0 or 1), 5 zero bytes, axis and pivot as 3 doubles each, then the lower and the upper limit, +0.0 where
- * it has none.
+ * A chain is one or two rotaries and the spindle axis. It is passed as bytes, 104 with one rotary and 176 with two,
+ * all numbers as little-endian doubles:
  *
- * Every call writes *at and *letter: with 3 to 9 the rotary's index, with 29 the offset of the first bad field (0 for a length
- * that is not the count's), else 0. */
+ *   offset     bytes  field
+ *   0          1      n, the number of rotaries: 1 or 2
+ *   1          7      zero
+ *   8          72     the first rotary
+ *   80         72     the second rotary, if n is 2
+ *   8 + 72 n   24     the spindle axis: the tool axis at head angles of zero, from the tip toward the spindle
+ *
+ * and each rotary, from its own first byte:
+ *
+ *   0          1      the letter: 'A', 'B' or 'C'
+ *   1          1      the carrier: 0 a table, which moves the part; 1 a head, which moves the tool
+ *   2          1      1 if it has limits, else 0
+ *   3          5      zero
+ *   8          24     the axis; a positive angle turns right-handed about it
+ *   32         24     the pivot, a point on the axis, in mm at angles of zero: a table's in machine coordinates, a
+ *                     head's relative to the gauge point
+ *   56         8      the lower limit in degrees, +0.0 if it has none
+ *   64         8      the upper limit in degrees, +0.0 if it has none
+ *
+ * Of two tables the first stands on the machine's base and carries the second. Of two heads the first hangs on the Z
+ * slide and carries the second. A table and a head stand in any order. Axes need not be unit vectors.
+ * examples/c/path.c has a function that writes these bytes. */
 
-/* Whether the chain can be served: 29, 3 to 9, 17 for a pivot beyond 100,000. */
+/* Checks a chain: returns 0 if the other functions can serve it.
+ * Refusals:
+ *   29      the bytes
+ *   3 to 9  the chain
+ *   17      a number of a pivot is above 100,000 mm in size */
 uint32_t maztubel_check_chain(const uint8_t *chain, size_t chain_length, uint64_t *at, uint8_t *letter);
 
-/* The tool's pose in the part frame, 6 doubles: the tip, then the unit axis from the tip toward the spindle. The joints are 5
- * doubles: the gauge point's position, and an angle in degrees for each rotary, the second tested also where there is none. 20, 29,
- * 14, 3 to 9, 16, then 17 for a position beyond 10,000,000, an angle beyond 36,000, a pivot or a tool length beyond 100,000. */
+/* From joints to the pose of the tool.
+ *
+ *   joints       5 doubles: the position of the gauge point in the machine frame in mm, and the angle of each rotary
+ *                in degrees. With one rotary the second angle is not used, but is checked all the same
+ *   tool_length  the distance from the gauge point to the tip in mm, along the spindle axis
+ *   pose         output, 6 doubles: the tip in mm and the unit tool axis from the tip toward the spindle, in the
+ *                part frame
+ *
+ * Refusals, all of which keep the pose:
+ *   20      joints is not 5 doubles, or pose not 6
+ *   29      the chain's bytes
+ *   14      the tool length
+ *   3 to 9  the chain
+ *   16      a joint is not finite
+ *   17      a position is above 10,000,000 mm in size, an angle above 36,000 degrees, a pivot or the tool length
+ *           above 100,000 mm */
 uint32_t maztubel_forward(const uint8_t *chain, size_t chain_length, const double *joints, size_t joints_length,
                           double tool_length, double *pose, size_t pose_length, uint64_t *at, uint8_t *letter);
 
-/* ---- the inverse map
+/* ---- The inverse map: from the pose of the tool to joints
  *
- * From a tool pose to the joints that reach it. The pose is 6 doubles, the tip and the axis, which need not be a unit vector; the
- * hint is 2 angles in degrees, which a rotary takes that the axis leaves free. Both calls refuse with 20, 29, 14, 15 for an axis of
- * zero or one whose length overflows, 3 to 9, 16 for a tip or a hint that is not finite, 17 for a tip, a pivot or a tool length beyond
- * 100,000 or a hint beyond 36,000, and then 21 or 22. With 21 and 22 every lent answer is +0.0, and the count is 0. *at and
- * *letter are those of a chain's calls. */
+ *   pose         6 doubles in the part frame: the tip in mm, and the tool axis from the tip toward the spindle, of
+ *                any length
+ *   tool_length  as in maztubel_forward
+ *   hint         2 angles in degrees; a rotary whose angle the tool axis leaves free takes its hint
+ *
+ * Refusals of both functions that keep the outputs:
+ *   20      the length of a buffer, see each function
+ *   29      the chain's bytes
+ *   14      the tool length
+ *   15      the tool axis is not finite, is zero, or its length overflows
+ *   3 to 9  the chain
+ *   16      the tip or the hint is not finite
+ *   17      a tip, a pivot or the tool length is above 100,000 mm in size, or a hint above 36,000 degrees
+ * and that clear the outputs:
+ *   21      the rotaries do not reach the tool axis
+ *   22      they reach it only outside their limits */
 
-/* Every joint set that reaches the pose, whole turns of each angle included where its limits have them, without limits those above
- * -180 and at most 180: at most 50, in the order of the first angle's size, the first angle, the second. The list is 250 doubles,
- * 50 joint sets of 5; those past *count are +0.0. An angle may be as large as 36,900. */
+/* Writes every joint set that reaches the pose.
+ *
+ *   list   output, 250 doubles, 50 joint sets of 5 as in maztubel_forward; those behind *count are +0.0. Each angle
+ *          is tried with up to two whole turns added or taken away, and must lie within its limits, without limits
+ *          above -180 and at most 180 degrees. The order is by the size of the first angle, then the first angle,
+ *          then the second. An angle can be as large as 36,900 degrees
+ *   count  output, how many joint sets, 1 to 50
+ *
+ * Refusals, beside those above:
+ *   20      pose is not 6 doubles, hint not 2, or list not 250
+ *   21, 22  clear the list and set *count to 0; all other refusals keep both */
 uint32_t maztubel_inverse(const uint8_t *chain, size_t chain_length, const double *pose, size_t pose_length,
                           double tool_length, const double *hint, size_t hint_length, double *list, size_t list_length,
                           uint64_t *count, uint64_t *at, uint8_t *letter);
 
+/* Which of the joint sets of maztubel_inverse to take. */
 enum {
-    /* the joint set with the smallest of the larger differences from the hint's two angles, of those that tie the first */
+    /* the nearest to the hint, by the larger of the two angle differences; of equals the first */
     MAZTUBEL_NEAREST = 0,
-    /* the first whose first angle is at least -1e-9, else the first of all */
+    /* the first whose first angle is at least -1e-9 degrees; if there is none, the first of all */
     MAZTUBEL_FIRST_POSITIVE = 1,
-    /* the first whose first angle is at most 1e-9, else the first of all */
+    /* the first whose first angle is at most 1e-9 degrees; if there is none, the first of all */
     MAZTUBEL_FIRST_NEGATIVE = 2
 };
 
-/* One of these joint sets, 5 doubles. A choice that is none of the three is 20. The nearest is also what goes by the hint; the other
- * two have a hint of zero, and do not read the one that is lent. */
+/* Writes one of the joint sets of maztubel_inverse.
+ *
+ *   choice  one of the three above. MAZTUBEL_NEAREST also takes the hint for free angles; the other two take zero
+ *           for them, and do not read the hint, which must be 2 doubles all the same
+ *   joints  output, 5 doubles, as in maztubel_forward
+ *
+ * Refusals, beside those above:
+ *   20      pose is not 6 doubles, hint not 2, joints not 5, or choice not 0, 1 or 2
+ *   21, 22  clear the joints; all other refusals keep them */
 uint32_t maztubel_choose(const uint8_t *chain, size_t chain_length, const double *pose, size_t pose_length,
                          double tool_length, uint32_t choice, const double *hint, size_t hint_length, double *joints,
                          size_t joints_length, uint64_t *at, uint8_t *letter);
 
-/* ---- models
+/* ---- Models: the shapes of a machine, and where they stand
  *
- * A model is bytes, links to their end: a name and a carrier, each a u16 length and its bytes; a kind, 0 a box and 1 a cylinder; 8
- * doubles. A box has two corners, its last two doubles are +0.0; a cylinder has base, axis, radius and length. A carrier is one
- * of "base", "table" and "head", or the letter of a rotary. No bytes are a model without links.
+ * A model is bytes, one link after another to their end; no bytes are a model without links. A link, all numbers
+ * little-endian:
  *
- * Chain and model are read whole before any check: 29 with an offset in the chain's bytes, then 29 with one in the model's. With 10
- * to 13 *at is the link's index, 0 for 10 and for a carrier that was asked for. `name` is the chain's, 1 to 256 bytes. */
+ *   bytes  field
+ *   2      n, the length of its name
+ *   n      the name, any bytes
+ *   2      k, the length of its carrier
+ *   k      the carrier: "base", "table", "head", or the letter of a rotary of the chain
+ *   1      the kind: 0 a box, 1 a cylinder
+ *   64     8 doubles in mm. A box: its lower corner (3), its upper corner (3), +0.0, +0.0. A cylinder: the middle of
+ *          its base (3), its axis (3), its radius, its length
+ *
+ *   name   the chain's name, 1 to 256 bytes; no other function takes one
+ *
+ * Chain and model are read whole before any check: 29 with an offset in the chain's bytes, then 29 with one in the
+ * model's. */
 
-/* Whether chain and model can be served: 29, 1 and 2 for the chain's name, 3 to 9, 10, then for each link in order 1, 2, 11, 12,
- * 13, and 17 for a pivot beyond 100,000. */
+/* Checks a chain with its model: returns 0 if both can be served.
+ * Refusals:
+ *   29      the bytes
+ *   1, 2    the chain's name
+ *   3 to 9  the chain
+ *   10      there are more than 64 links
+ *           for each link in turn:
+ *   1, 2    its name, with *at 0
+ *   11      an earlier link has its name
+ *   12      its carrier
+ *   13      its solid
+ *           after the last link:
+ *   17      a pivot is above 100,000 mm in size */
 uint32_t maztubel_check_model(const uint8_t *name, size_t name_length, const uint8_t *chain, size_t chain_length,
                               const uint8_t *model, size_t model_length, uint64_t *at, uint8_t *letter);
 
-/* The frame of what a carrier names, at the given joints, in the machine: 12 doubles, the origin and then the three axes. The joints
- * are those of maztubel_forward. 20, then the check's numbers but 17, then 16, 12 for the carrier that was asked for, 17. */
+/* Where the links of a carrier stand in the machine frame.
+ *
+ *   joints   5 doubles, as in maztubel_forward
+ *   carrier  bytes, as in a link
+ *   frame    output, 12 doubles: an origin in mm and three axes. A point (x, y, z) of a link, as the model has it at
+ *            joints of zero, stands at origin + x * first axis + y * second axis + z * third axis
+ *
+ * Refusals, all of which keep the frame:
+ *   20      joints is not 5 doubles, or frame not 12
+ *           the refusals of maztubel_check_model without 17
+ *   16      a joint is not finite
+ *   12      the carrier, with *at 0
+ *   17      a position is above 10,000,000 mm in size, an angle above 36,000 degrees, a pivot above 100,000 mm */
 uint32_t maztubel_link_world(const uint8_t *name, size_t name_length, const uint8_t *chain, size_t chain_length,
                              const uint8_t *model, size_t model_length, const double *joints, size_t joints_length,
                              const uint8_t *carrier, size_t carrier_length, double *frame, size_t frame_length, uint64_t *at,
                              uint8_t *letter);
 
-/* The same frame, seen from the part: the inverse of the table's frame, then it. */
+/* The same in the part frame: the inverse of the table's frame, applied to the frame of maztubel_link_world. */
 uint32_t maztubel_link_in_part(const uint8_t *name, size_t name_length, const uint8_t *chain, size_t chain_length,
                                const uint8_t *model, size_t model_length, const double *joints, size_t joints_length,
                                const uint8_t *carrier, size_t carrier_length, double *frame, size_t frame_length, uint64_t *at,
                                uint8_t *letter);
 
-/* ---- paths
+/* ---- Paths
  *
- * Poses are 6 doubles each, the tip and the tool axis; joint sets 5, as in maztubel_forward. */
+ * A path is poses in order, 6 doubles each: the tip in mm and the tool axis, in the part frame. Its joint sets are 5
+ * doubles each, as in maztubel_forward. On a path the tool length is 0: the gauge point is the tool tip at head
+ * angles of zero, and a head's pivot is relative to it. */
 
-/* The joints of every pose, each continuous with the one before it; the first with the start, 5 doubles, or with angles zero where
- * the start has none. The joints stand one set for each pose, +0.0 behind them. Inside the cone about the singular direction, in
- * degrees above 0 and at most 10, the rotary on that direction keeps its angle. 20, 29, 18, 3 to 9, 16 for the start, 17 for a pivot
- * or the start or more than 100,000 poses, 28 with *at 0 where there is no space for a set of each pose: with these the lent joints
- * stay as they were. Then pose by pose, with *at its index: 25 for its axis, 16 and 17 for its tip (beyond 100,000), 23, 24 with
- * *letter the rotary's, 25, 26: with these the lent joints are all +0.0. */
+/* Writes the joints of every pose of a path, each continuous with the pose before.
+ *
+ *   start   5 doubles, the joints before the first pose, of which the angles are used; or 0 doubles, for angles of
+ *           zero
+ *   cone    in degrees, above 0 and at most 10. Where the tool axis is within the cone of the singular direction or
+ *           its opposite, the rotary on that direction keeps its angle, and the other one brings the tool axis as
+ *           near as it can
+ *   joints  output, one joint set for each pose, and +0.0 behind them
+ *
+ * Refusals before the first pose, which keep the joints:
+ *   20      no whole records, or a start of neither 0 nor 5 doubles
+ *   29      the chain's bytes
+ *   18      the cone
+ *   3 to 9  the chain
+ *   16      the start is not finite
+ *   17      a pivot is above 100,000 mm in size, the start's position above 10,000,000 mm or an angle of it above
+ *           36,000 degrees, or there are more than 100,000 poses
+ *   28      there is no space for the joints; *at is 0
+ * Refusals at a pose, each pose in turn, with *at its index. They clear the whole output:
+ *   25      its axis is not finite, is zero, or its length overflows
+ *   16      its tip is not finite
+ *   17      its tip is above 100,000 mm in size
+ *   25      the rotaries do not reach its axis
+ *   23      only another branch of the rotaries lies within the limits
+ *   24      a rotary leaves its limits; *letter is its letter
+ *   26      an angle is above 36,000 degrees in size */
 uint32_t maztubel_solve_path(const uint8_t *chain, size_t chain_length, const double *poses, size_t poses_length,
                              const double *start, size_t start_length, double cone, double *joints, size_t joints_length,
                              uint64_t *at, uint8_t *letter);
 
-/* ---- division
+/* ---- Division
  *
- * Poses are inserted halfway between two neighbours until both tolerances hold: the chord, in the lengths' unit, and the axis, in
- * degrees, each finite and above 0. Both calls write the divided path to two outputs, 6 doubles a pose and 5 a joint set; the space
- * is the smaller of the two, in records. The given poses are copied bit for bit, and +0.0 stands behind the path in both.
+ * Inserts poses halfway between two neighbours until both tolerances hold at the middle of every two neighbours. Two
+ * neighbours that fail stay as they are where their midpoint would be within 1e-12 of one of them.
  *
- * Every call writes *inserted, *at and *letter. *inserted is the number of poses inserted, with 27 and 28 the number so far, with
- * any other refusal 0; *at and *letter are those of a chain's calls and, where poses are solved, of maztubel_solve_path. 27 is an
- * insertion that would be the 10,001st, else 28 one for which there is no space: with these both outputs are all +0.0. */
+ *   chord       how far the tip may be off, in mm, finite and above 0
+ *   axis        how far the tool axis may be off, in degrees, finite and above 0
+ *   out_poses   output, the poses of the divided path, 6 doubles each, and +0.0 behind them. The given poses are
+ *               among them, in order and bit for bit
+ *   out_joints  output, the joint set of each, 5 doubles, and +0.0 behind them
+ *   inserted    output of every call: the number of poses inserted; with 27 and 28 the number so far; with any other
+ *               refusal 0
+ *
+ * The space is the smaller of the two outputs, counted in records. Space for 10,000 more poses than given is always
+ * enough. */
 
-/* Divides the given poses with their given joints. 20 for a buffer of broken records, 29, 19, 20 for joint sets that are not one
- * for each pose, 3 to 9, 16 for any number of a pose or a joint set, 17 for a pivot, a tip, a position, an angle or more than 100,000
- * poses: with these both outputs stay as they were. Then 28 with *inserted 0 where there is no space for the given poses, 27 and 28:
- * with these both are all +0.0. */
+/* Divides given poses with their given joints.
+ *
+ * Refusals that keep both outputs:
+ *   20      no whole records
+ *   29      the chain's bytes
+ *   19      a tolerance
+ *   20      not one joint set for each pose
+ *   3 to 9  the chain
+ *   16      a number of a pose or a joint set is not finite
+ *   17      a pivot or a tip is above 100,000 mm in size, a position above 10,000,000 mm, an angle above 36,000
+ *           degrees, or there are more than 100,000 poses
+ * Refusals that clear both outputs:
+ *   28      there is no space for the given poses; *inserted is 0
+ *   27      an insertion would be the 10,001st
+ *   28      there is no space for the next pose */
 uint32_t maztubel_subdivide_path(const uint8_t *chain, size_t chain_length, const double *poses, size_t poses_length,
                                  const double *joints, size_t joints_length, double chord, double axis, double *out_poses,
                                  size_t out_poses_length, double *out_joints, size_t out_joints_length, uint64_t *inserted,
                                  uint64_t *at, uint8_t *letter);
 
-/* Solves the poses as maztubel_solve_path does, and divides them with the joints that it gives. 20 for a buffer of broken records, 29,
- * 18, 3 to 9, 16 for the start, 17 and 28 with *inserted 0 where there is no space for the given poses: with these both outputs stay
- * as they were. Then, with both outputs all +0.0: what a pose is refused with, 19 for a tolerance, 27 and 28. */
+/* Solves poses as maztubel_solve_path does, and divides them with the joints that it gives.
+ *
+ * Refusals that keep both outputs:
+ *   20      no whole records, or a start of neither 0 nor 5 doubles
+ *           29, 18, 3 to 9, 16 and 17 of maztubel_solve_path, before its first pose
+ *   28      there is no space for the given poses; *inserted is 0
+ * Refusals that clear both outputs:
+ *           the refusals of maztubel_solve_path at a pose
+ *   19      a tolerance
+ *   27      an insertion would be the 10,001st
+ *   28      there is no space for the next pose */
 uint32_t maztubel_solve_and_divide(const uint8_t *chain, size_t chain_length, const double *poses, size_t poses_length,
                                    const double *start, size_t start_length, double cone, double chord, double axis,
                                    double *out_poses, size_t out_poses_length, double *out_joints, size_t out_joints_length,
                                    uint64_t *inserted, uint64_t *at, uint8_t *letter);
 
-/* ---- jobs
+/* ---- Jobs
  *
- * A job is bytes, all numbers little-endian, 40 to 65,536 of them: a chain, as in maztubel_check_chain, and poses of 48 bytes, tip and
- * axis as 3 doubles each, wherever they stand; last a trailer of 40 bytes: u32 offset of the chain, u32 offset of the poses, u32
- * count of the poses, u32 zero, cone, chord tolerance and axis tolerance as doubles. The parts lie before the trailer and apart; other
- * bytes are ignored. The reader judges bytes alone: a chain or a number that no call serves is read. */
+ * A job is a file of 40 to 65,536 bytes with a chain, poses, a cone and tolerances. Its last 40 bytes are the
+ * trailer, four u32 and three doubles, little-endian as all numbers of a job:
+ *
+ *   offset in the trailer  field
+ *   0                      offset of the chain, whose bytes are as above
+ *   4                      offset of the poses, 48 bytes each: 3 doubles of the tip, 3 of the axis
+ *   8                      number of poses
+ *   12                     zero
+ *   16                     the cone in degrees
+ *   24                     the chord tolerance in mm
+ *   32                     the axis tolerance in degrees
+ *
+ * Chain and poses lie before the trailer and do not overlap; all other bytes are ignored. The reader judges only the
+ * form of the bytes: it reads a chain or a number that no other function serves. */
 
-/* What the trailer says; the chain is the 104 or 176 bytes from *chain_at on, by its count of rotaries. 29 with *at the offset of the
- * first bad field, 0 for the length; 3 for a count of rotaries other than 1 and 2; 4 for a letter other than A, B and C, with *at the
- * rotary's index. Else *at is 0. A refusal keeps every lent number but *at. */
+/* Reads a job.
+ *
+ *   chain_at  offset of the chain, which is 104 or 176 bytes long, by its number of rotaries
+ *   poses_at  offset of the first pose
+ *   count     how many poses, at most 1,362
+ *   cone      in degrees
+ *   chord     the chord tolerance in mm
+ *   axis      the axis tolerance in degrees
+ *   at        0 after success
+ *
+ * Refusals, all of which keep every output but *at:
+ *   29  the form of the bytes; *at is the offset of the first bad field, 0 for the length
+ *   3   the number of rotaries; *at is 0
+ *   4   a rotary's letter; *at is the rotary's index */
 uint32_t maztubel_read_job(const uint8_t *job, size_t job_length, uint64_t *chain_at, uint64_t *poses_at, uint64_t *count,
                            double *cone, double *chord, double *axis, uint64_t *at);
 
-/* The poses of a job, 6 doubles each, then +0.0 to the end. 20 for a length that is no multiple of 6, then the numbers of
- * maztubel_read_job, then 28 with *at 0 where there are more poses than space: with these the lent poses stay as they were. At most
- * 1,362 poses fit in a job. */
+/* Writes the poses of a job, 6 doubles each as on a path, and +0.0 behind them.
+ *
+ * Refusals, all of which keep the poses:
+ *   20  the length of poses is no multiple of 6
+ *       the refusals of maztubel_read_job
+ *   28  there is no space for the poses; *at is 0 */
 uint32_t maztubel_job_poses(const uint8_t *job, size_t job_length, double *poses, size_t poses_length, uint64_t *at);
 
-/* The cable number of the rotary with that index on a path of joint sets: the largest whole k with 360 times k at most the size of
- * some of its angles; 0 on an empty path and for a rotary that the chain lacks. 20 for a length that is no multiple of 5, 29, 3 to 9,
- * 16 for a joint that is not finite, 17 for a position beyond 10,000,000, an angle beyond 36,000 or a pivot beyond 100,000. A refusal
- * keeps the number. *at and *letter are those of a chain's calls. */
+/* Writes the cable number of a rotary on a path: the largest whole k with 360 * k at most the size of some angle of
+ * that rotary, in degrees. It is 0 on an empty path and for a rotary that the chain does not have.
+ *
+ *   joints  joint sets of 5 doubles each, any number of them
+ *   rotary  the index of the rotary in the chain, from 0
+ *
+ * Refusals, all of which keep the number:
+ *   20      no whole joint sets
+ *   29      the chain's bytes
+ *   3 to 9  the chain
+ *   16      a joint is not finite
+ *   17      a position is above 10,000,000 mm in size, an angle above 36,000 degrees, a pivot above 100,000 mm */
 uint32_t maztubel_cable_number(const uint8_t *chain, size_t chain_length, const double *joints, size_t joints_length,
                                uint64_t rotary, uint64_t *number, uint64_t *at, uint8_t *letter);
 
