@@ -1,10 +1,8 @@
-/* Maztubel: the rotary kinematics of a five-axis postprocessor.
+/* The exports of the static library maztubel (`rt staticlib maztubel` writes target/staticlib/libmaztubel.a).
  *
- * Units are millimetres and degrees; only sine, cosine, arctangent and arccosine use radians. Frames are
- * right-handed. docs/CONVENTIONS.md has units, frames, pivots, signs and worked machines.
- *
- * Build: `rt staticlib maztubel` writes target/staticlib/libmaztubel.a, for x86-64 Linux. Link it; of the C library
- * it uses only memcpy and memset.
+ * The rotary kinematics of a five-axis postprocessor, in millimetres and degrees; docs/CONVENTIONS.md has frames,
+ * pivots, signs and worked machines. Link the library on x86-64 Linux; of the C library it uses only memcpy and
+ * memset. It allocates nothing and keeps no pointer and no state, so calls may run on several threads at once.
  *
  * Every function returns 0 and writes its outputs, or returns a refusal number and leaves them unchanged unless
  * stated. An output is kept if the call leaves it unchanged, and cleared if the call sets every number of it to
@@ -16,7 +14,6 @@
  *     buffer.
  *   - A pointer is aligned for its element. NULL is valid for a buffer of length 0, and nowhere else.
  *   - No two buffers or outputs of one call overlap.
- * The library allocates nothing and keeps no pointer and no state.
  *
  * Where a function has *at and *letter, every call writes both:
  *   3 to 9    *at is the index of the rotary at fault; 0 for the number of rotaries and for the spindle axis
