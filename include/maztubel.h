@@ -1,3 +1,20 @@
+/* Conventions; docs/CONVENTIONS.md has them with a picture, how to set up a chain, and worked machines.
+ *
+ * - Lengths are millimetres, angles degrees. Only the four functions from sine to arccosine have radians.
+ * - Frames are right-handed, and a positive angle turns right-handedly about its rotary's axis. A head's turns the tool,
+ *   a table's turns the part, so the tool seen from the part turns the other way.
+ * - X, Y, Z of a joint set place the gauge point in the machine frame. The part frame is the machine frame at table
+ *   angles zero and turns with the tables. The gauge frame is the machine frame moved to the gauge point.
+ * - Axes and pivots are those at angles zero. A table's pivot is in machine coordinates, a head's is relative to the
+ *   gauge point. The outer rotary comes first: of two tables the one on the machine base, of two heads the one on the
+ *   slide.
+ * - The tool axis points from the tip toward the spindle. At head angles zero the tip is the gauge point minus the tool
+ *   length times the unit spindle axis.
+ * - forward maps joints to a pose in the part frame, inverse and choose map a pose to joints, each at a tool length.
+ *   Calls on paths map poses to joints at tool length 0: for a tool of length L add L times the unit spindle axis to
+ *   each head's pivot beforehand, and to each position afterwards.
+ */
+
 /* The exports of the static library maztubel (`rt staticlib maztubel` writes target/staticlib/libmaztubel.a).
  *
  * The rotary kinematics of a five-axis postprocessor, in millimetres and degrees; docs/CONVENTIONS.md has frames,
