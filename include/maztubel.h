@@ -101,7 +101,8 @@ enum {
     MAZTUBEL_LENGTHS_DIFFER = 20,
     /* the rotaries must reach the tool axis */
     MAZTUBEL_NOT_REACHABLE = 21,
-    /* the rotaries must reach the tool axis within their limits, without limits above -180 and at most 180 degrees */
+    /* the rotaries must reach the tool axis within their limits, without limits above -180 and at most 180 degrees,
+     * with at most 2 turns added or taken away */
     MAZTUBEL_OUTSIDE_LIMITS = 22,
     /* a pose must keep the rotary branch, its angles at most 90 degrees from the solution closest to the pose before */
     MAZTUBEL_BRANCH_FLIPS = 23,
