@@ -54,7 +54,7 @@ pub struct Rotary {
 /// assert_eq!(chain.bytes().len(), 176);
 ///
 /// chain.rotaries[1].letter = b'A';
-/// assert_eq!(check_chain(&chain).unwrap_err().to_string(), "refused 5: two rotaries have one letter: rotary 1");
+/// assert_eq!(check_chain(&chain).unwrap_err().to_string(), "refused 5: two rotaries must have different letters: rotary 1");
 /// # Ok::<(), maztubel::Refusal>(())
 /// ```
 #[derive(Clone, Debug, PartialEq)]
@@ -85,12 +85,12 @@ impl Chain {
     /// The chain that has these bytes, if they are a chain's: the sibling of [`Chain::bytes`]. No number is judged, nor a letter.
     ///
     /// ```
-    /// use maztubel::{Carrier, Chain, Rotary};
+    /// use maztubel::{Carrier, Chain, Place, Rotary};
     ///
     /// let rotary = Rotary { letter: b'C', carrier: Carrier::Head, axis: [0.0, 0.0, 1.0], pivot: [0.0; 3], limits: None };
     /// let chain = Chain { rotaries: vec![rotary], spindle: [0.0, 0.0, 1.0] };
     /// assert_eq!(Chain::from_bytes(&chain.bytes()), Ok(chain));
-    /// assert_eq!(Chain::from_bytes(&[1; 104]).unwrap_err().to_string(), "refused 29: the bytes are malformed: offset 1");
+    /// assert_eq!(Chain::from_bytes(&[1; 104]).unwrap_err().place, Place::Offset(1));
     /// ```
     pub fn from_bytes(bytes: &[u8]) -> Result<Chain, Refusal> {
         let told = flat::check_chain(bytes);

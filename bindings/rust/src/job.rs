@@ -33,7 +33,10 @@ impl Job {
     /// assert_eq!(path.inserted, 0);
     ///
     /// bytes[7] = 1;
-    /// assert_eq!(Job::read(&bytes).unwrap_err().to_string(), "refused 29: the bytes are malformed: offset 7");
+    /// assert_eq!(
+    ///     Job::read(&bytes).unwrap_err().to_string(),
+    ///     "refused 29: the bytes of a chain, a job or a model must have the form of docs/FORMAT.md: offset 7"
+    /// );
     /// # Ok::<(), maztubel::Refusal>(())
     /// ```
     pub fn read(bytes: &[u8]) -> Result<Job, Refusal> {

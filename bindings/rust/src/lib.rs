@@ -25,7 +25,7 @@
 //! ```
 //!
 //! Lengths are mm, angles degrees but for the four functions of `sine`. Nothing panics and nothing is undefined for any
-//! argument: what cannot be served is refused with a [`Refusal`], whose number is that of the repository's price list.
+//! argument: what cannot be served is refused with a [`Refusal`], whose number is that of document 01's refusal table.
 //!
 //! A function that answers a `Vec` has a sibling that ends in `_into` and writes to slices of the caller's. [`flat`] has
 //! every entry over plain numbers and bytes, as C sees it; it is the one module with unsafe code. [`raw`] has the declarations that

@@ -150,7 +150,7 @@ pub struct Frame {
 ///
 /// let chain = Chain { rotaries: vec![], spindle: [0.0, 0.0, 1.0] };
 /// let machine = Machine { name: vec![], chain, links: vec![] };
-/// assert_eq!(check_model(&machine).unwrap_err().to_string(), "refused 1: a name is empty");
+/// assert_eq!(check_model(&machine).unwrap_err().to_string(), "refused 1: a name must have at least 1 byte");
 /// ```
 pub fn check_model(machine: &Machine) -> Result<(), Refusal> {
     flat::check_model(

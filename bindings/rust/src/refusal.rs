@@ -4,127 +4,117 @@ use crate::flat::Told;
 use std::error::Error;
 use std::fmt;
 
-/// Why a call was refused. As a number it is that of the price list.
-///
-/// ```
-/// assert_eq!(maztubel::Reason::PoseUnreachable as u32, 25);
-/// ```
-#[derive(Clone, Copy, Debug, PartialEq, Eq, Hash)]
-#[repr(u32)]
-pub enum Reason {
-    /// A name is empty.
-    NameEmpty = 1,
-    /// A name has more than 256 bytes.
-    NameTooLong = 2,
-    /// There are not 1 or 2 rotaries.
-    RotaryCount = 3,
-    /// A rotary's letter is not A, B or C.
-    RotaryLetter = 4,
-    /// Two rotaries have one letter.
-    LetterTwice = 5,
-    /// A component of the chain is not finite.
-    ChainNotFinite = 6,
-    /// A rotary's axis is zero, or its length overflows.
-    RotaryAxisZero = 7,
-    /// A rotary's limits are refused.
-    LimitsRefused = 8,
-    /// The spindle's axis is zero, or its length overflows.
-    SpindleZero = 9,
-    /// A model has more than 64 links.
-    TooManyLinks = 10,
-    /// Two links have one name.
-    LinkNameTwice = 11,
-    /// A carrier is unknown.
-    CarrierUnknown = 12,
-    /// A link's solid is bad.
-    SolidBad = 13,
-    /// The tool length is refused.
-    ToolLength = 14,
-    /// The tool axis is zero, not on a path.
-    ToolAxisZero = 15,
-    /// A joint, a hint or a tip is not finite.
-    NotFinite = 16,
-    /// A size is above its limit.
-    TooLarge = 17,
-    /// The cone is refused.
-    Cone = 18,
-    /// A tolerance is refused.
-    Tolerance = 19,
-    /// Lengths differ, or a buffer has no whole records.
-    LengthsDiffer = 20,
-    /// The axis is not reachable.
-    NotReachable = 21,
-    /// The axis is reached outside the rotary limits alone.
-    OutsideLimits = 22,
-    /// A pose flips the rotary branch.
-    BranchFlips = 23,
-    /// A pose leaves the limits of an axis.
-    LeavesAxis = 24,
-    /// A pose is unreachable.
-    PoseUnreachable = 25,
-    /// A pose's angle is past 36,000.
-    AngleTooLarge = 26,
-    /// An insertion would be the 10,001st.
-    TooManyInsertions = 27,
-    /// There is no space for the next pose.
-    NoSpace = 28,
-    /// The bytes of a job or a model are malformed.
-    Malformed = 29,
+/// The table below as the enum `Reason`, with each reason's number and text.
+macro_rules! reasons {
+    ($($name:ident = $number:literal, $text:literal;)*) => {
+        /// Why a call was refused. Its text says what must hold.
+        ///
+        /// ```
+        /// use maztubel::Reason;
+        ///
+        /// assert_eq!(Reason::from(18), Reason::Cone);
+        /// assert_eq!(Reason::Cone.number(), 18);
+        /// assert_eq!(Reason::Cone.to_string(), "the cone must be finite, above 0 and at most 10 degrees");
+        /// ```
+        #[derive(Clone, Copy, Debug, PartialEq, Eq, Hash)]
+        #[non_exhaustive]
+        pub enum Reason {
+            $(
+                #[doc = concat!("Number ", $number, ": ", $text, ".")]
+                $name,
+            )*
+            /// A number that this version of the crate does not know: the library is newer.
+            Unknown(u32),
+        }
+
+        impl Reason {
+            /// The number in document 01's refusal table.
+            ///
+            /// ```
+            /// assert_eq!(maztubel::Reason::PoseUnreachable.number(), 25);
+            /// ```
+            pub fn number(self) -> u32 {
+                match self {
+                    $(Reason::$name => $number,)*
+                    Reason::Unknown(number) => number,
+                }
+            }
+
+            fn text(self) -> &'static str {
+                match self {
+                    $(Reason::$name => $text,)*
+                    Reason::Unknown(_) => "this version of the crate does not know the number",
+                }
+            }
+        }
+
+        /// The reason with a number of document 01's refusal table; [`Reason::Unknown`] for every other number.
+        impl From<u32> for Reason {
+            fn from(number: u32) -> Reason {
+                match number {
+                    $($number => Reason::$name,)*
+                    _ => Reason::Unknown(number),
+                }
+            }
+        }
+    };
 }
 
-/// Every reason, the one with the number n at n - 1, with its words.
-const REASONS: [(Reason, &str); 29] = [
-    (Reason::NameEmpty, "a name is empty"),
-    (Reason::NameTooLong, "a name has more than 256 bytes"),
-    (Reason::RotaryCount, "there are not 1 or 2 rotaries"),
-    (Reason::RotaryLetter, "a letter is not A, B or C"),
-    (Reason::LetterTwice, "two rotaries have one letter"),
-    (
-        Reason::ChainNotFinite,
-        "a component of the chain is not finite",
-    ),
-    (Reason::RotaryAxisZero, "a rotary's axis is zero"),
-    (Reason::LimitsRefused, "a rotary's limits are refused"),
-    (Reason::SpindleZero, "the spindle's axis is zero"),
-    (Reason::TooManyLinks, "a model has more than 64 links"),
-    (Reason::LinkNameTwice, "two links have one name"),
-    (Reason::CarrierUnknown, "a carrier is unknown"),
-    (Reason::SolidBad, "a solid is bad"),
-    (Reason::ToolLength, "the tool length is refused"),
-    (Reason::ToolAxisZero, "the tool axis is zero"),
-    (Reason::NotFinite, "a joint, a hint or a tip is not finite"),
-    (Reason::TooLarge, "a size is above its limit"),
-    (Reason::Cone, "the cone is refused"),
-    (Reason::Tolerance, "a tolerance is refused"),
-    (
-        Reason::LengthsDiffer,
-        "lengths differ, or a buffer has no whole records",
-    ),
-    (Reason::NotReachable, "the tool axis is not reachable"),
-    (
-        Reason::OutsideLimits,
-        "the tool axis is reached outside the rotary limits alone",
-    ),
-    (Reason::BranchFlips, "the pose flips the rotary branch"),
-    (Reason::LeavesAxis, "the pose leaves the limits of an axis"),
-    (Reason::PoseUnreachable, "the pose is unreachable"),
-    (Reason::AngleTooLarge, "an angle is past 36,000"),
-    (
-        Reason::TooManyInsertions,
-        "an insertion would be the 10,001st",
-    ),
-    (Reason::NoSpace, "there is no space for the next pose"),
-    (Reason::Malformed, "the bytes are malformed"),
-];
+// Document 01's refusal table. A new number is a line here; `place` below says where its fault is, if anywhere.
+reasons! {
+    NameEmpty = 1, "a name must have at least 1 byte";
+    NameTooLong = 2, "a name must have at most 256 bytes";
+    RotaryCount = 3, "a chain must have 1 or 2 rotaries";
+    RotaryLetter = 4, "a rotary's letter must be A, B or C";
+    LetterTwice = 5, "two rotaries must have different letters";
+    ChainNotFinite = 6, "a rotary's axis and pivot and the spindle axis must be finite";
+    RotaryAxisZero = 7,
+        "a rotary's axis must have a direction (a component above 1e-15 in size, a length that does not overflow)";
+    LimitsRefused = 8, "a rotary's limits must be finite, the lower below the upper";
+    SpindleZero = 9,
+        "the spindle axis must have a direction (a component above 1e-15 in size, a length that does not overflow)";
+    TooManyLinks = 10, "a model must have at most 64 links";
+    LinkNameTwice = 11, "the links of a model must have different names";
+    CarrierUnknown = 12, "a carrier must be base, table, head or the letter of a rotary of the chain";
+    SolidBad = 13,
+        "a solid must be finite, a box with max above min in x, y and z, a cylinder with a radius and a length above \
+         0 and an axis that has a direction";
+    ToolLength = 14, "the tool length must be finite and not below 0 mm";
+    ToolAxisZero = 15,
+        "the tool axis must have a direction (finite, a component above 1e-15 in size, a length that does not \
+         overflow)";
+    NotFinite = 16, "joints, start, hint and tips must be finite, in a division tool axes too";
+    TooLarge = 17,
+        "sizes must be at most 100,000 mm (tip, pivot, tool length), 10,000,000 mm (joint position), 36,000 degrees \
+         (angle, hint), 100,000 poses, 800 radians (sine, cosine), 1 (arccosine), and finite (arctangent)";
+    Cone = 18, "the cone must be finite, above 0 and at most 10 degrees";
+    Tolerance = 19, "the chord tolerance (mm) and the axis tolerance (degrees) must be finite and above 0";
+    LengthsDiffer = 20,
+        "buffers must hold whole records, lengths that belong together must be equal, and a choice must be 0, 1 or 2";
+    NotReachable = 21, "the rotaries must reach the tool axis";
+    OutsideLimits = 22,
+        "the rotaries must reach the tool axis within their limits, without limits above -180 and at most 180 \
+         degrees";
+    BranchFlips = 23,
+        "a pose must keep the rotary branch, its angles at most 90 degrees from the solution closest to the pose \
+         before";
+    LeavesAxis = 24, "a pose must keep every rotary within its limits";
+    PoseUnreachable = 25, "a pose's tool axis must have a direction that the rotaries reach";
+    AngleTooLarge = 26, "a pose's angles must be at most 36,000 degrees in size";
+    TooManyInsertions = 27, "a division must insert at most 10,000 poses";
+    NoSpace = 28, "the outputs must have space for every pose";
+    Malformed = 29, "the bytes of a chain, a job or a model must have the form of docs/FORMAT.md";
+}
 
 impl fmt::Display for Reason {
     fn fmt(&self, f: &mut fmt::Formatter) -> fmt::Result {
-        f.write_str(REASONS[*self as usize - 1].1)
+        f.write_str(self.text())
     }
 }
 
 /// Where the fault is.
 #[derive(Clone, Copy, Debug, PartialEq, Eq, Hash)]
+#[non_exhaustive]
 pub enum Place {
     /// No single part is at fault, or the library names none.
     Whole,
@@ -149,7 +139,7 @@ pub enum Place {
 ///
 /// let refusal = Refusal { reason: Reason::LeavesAxis, place: Place::Axis(3, b'B') };
 /// assert_eq!(refusal.number(), 24);
-/// assert_eq!(refusal.to_string(), "refused 24: the pose leaves the limits of an axis: pose 3, axis B");
+/// assert_eq!(refusal.to_string(), "refused 24: a pose must keep every rotary within its limits: pose 3, axis B");
 /// ```
 #[derive(Clone, Copy, Debug, PartialEq, Eq, Hash)]
 pub struct Refusal {
@@ -160,13 +150,13 @@ pub struct Refusal {
 }
 
 impl Refusal {
-    /// The number of the price list.
+    /// The number in document 01's refusal table.
     ///
     /// ```
     /// assert_eq!(maztubel::sine(1e9).unwrap_err().number(), 17);
     /// ```
     pub fn number(&self) -> u32 {
-        self.reason as u32
+        self.reason.number()
     }
 
     /// The pose that is at fault, where there is one.
@@ -185,7 +175,7 @@ impl Refusal {
 
     /// `at_pose` says that the call had come to its poses, which 16 and 17 alone do not tell.
     pub(crate) fn told(told: Told, at_pose: bool) -> Refusal {
-        let reason = REASONS[told.number as usize - 1].0;
+        let reason = Reason::from(told.number);
         Refusal {
             reason,
             place: place(reason, told, at_pose),
@@ -194,7 +184,7 @@ impl Refusal {
 }
 
 fn place(reason: Reason, told: Told, at_pose: bool) -> Place {
-    match reason as u32 {
+    match reason.number() {
         4..=8 => Place::Rotary(told.at),
         11..=13 => Place::Link(told.at),
         16 | 17 if at_pose => Place::Pose(told.at),
