@@ -23,10 +23,10 @@ fn main() -> Result<(), Refusal> {
         path.poses.len(),
         path.inserted
     );
-    for (pose, joints) in path.poses.iter().zip(&path.joints) {
+    for (index, joints) in path.joints.iter().enumerate() {
         let [x, y, z] = joints.position;
         let [a, c] = joints.angles;
-        let mark = if poses.contains(pose) { ' ' } else { '+' };
+        let mark = if path.is_inserted(index) { '+' } else { ' ' };
         println!("{mark} X{x:9.3} Y{y:9.3} Z{z:9.3} A{a:9.3} C{c:9.3}");
     }
     Ok(())

@@ -82,14 +82,14 @@ pub fn picture(bytes: &[u8]) -> Result<String, Refusal> {
     let rotaries = &job.chain.rotaries;
     let angles = rotaries.iter().enumerate().map(|(index, rotary)| {
         let panel = angles_panel(index, rotaries.len());
-        of_angle(&job, &path, index, char::from(rotary.letter), panel)
+        of_angle(&path, index, char::from(rotary.letter), panel)
     });
     Ok(format!(
         "<svg xmlns=\"http://www.w3.org/2000/svg\" viewBox=\"0 0 {width} {height}\" font-family=\"sans-serif\" font-size=\"13\">\n\
          <rect width=\"{width}\" height=\"{height}\" rx=\"6\" fill=\"#fff\"/>\n{}{}{}{}</svg>\n",
         text([TIPS.left, 30.0], "start", &title),
         key(),
-        of_tips(&job, &path),
+        of_tips(&path),
         angles.collect::<String>()
     ))
 }
@@ -105,7 +105,7 @@ fn key() -> String {
 }
 
 /// From above, x to the right and y up, both to one scale.
-fn of_tips(job: &Job, path: &Divided) -> String {
+fn of_tips(path: &Divided) -> String {
     let [x, y] = [0, 1].map(|i| span(path.poses.iter().map(|pose| pose.tip[i])));
     let scale = (TIPS.width / (x[1] - x[0])).min(TIPS.height / (y[1] - y[0]));
     let middle = |[low, high]: [f64; 2]| 0.5 * (low + high);
@@ -118,9 +118,10 @@ fn of_tips(job: &Job, path: &Divided) -> String {
     let dots: Vec<Dot> = path
         .poses
         .iter()
-        .map(|pose| Dot {
+        .enumerate()
+        .map(|(i, pose)| Dot {
             at: place(pose.tip),
-            given: job.poses.contains(pose),
+            given: !path.is_inserted(i),
         })
         .collect();
     let strokes = dots.iter().zip(&path.poses).map(|(dot, pose)| {
@@ -134,7 +135,7 @@ fn of_tips(job: &Job, path: &Divided) -> String {
 }
 
 /// A rotary's angle against the index of the pose.
-fn of_angle(job: &Job, path: &Divided, rotary: usize, letter: char, panel: Panel) -> String {
+fn of_angle(path: &Divided, rotary: usize, letter: char, panel: Panel) -> String {
     let angle = |i: usize| path.joints[i].angles[rotary];
     let range = span((0..path.joints.len()).map(angle));
     let [low, high] = range;
@@ -146,7 +147,7 @@ fn of_angle(job: &Job, path: &Divided, rotary: usize, letter: char, panel: Panel
                 panel.left + panel.width * i as f64 / last,
                 height_of(angle(i)),
             ],
-            given: job.poses.contains(&path.poses[i]),
+            given: !path.is_inserted(i),
         })
         .collect();
     let right = panel.left + panel.width;

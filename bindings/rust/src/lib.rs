@@ -52,8 +52,8 @@ pub use inverse::{Choice, MOST_SOLUTIONS, choose, inverse};
 pub use job::{Job, cable_number, job_poses_into};
 pub use model::{Frame, Link, Machine, Mount, Solid, check_model, link_in_part, link_world};
 pub use path::{
-    Divided, MOST_INSERTED, Start, Tolerances, solve_and_divide, solve_and_divide_into, solve_path,
-    solve_path_into, subdivide_path, subdivide_path_into,
+    Divided, MOST_INSERTED, Start, Tolerances, given_indices, solve_and_divide,
+    solve_and_divide_into, solve_path, solve_path_into, subdivide_path, subdivide_path_into,
 };
 pub use pose::{Joints, Pose};
 pub use refusal::{Place, Reason, Refusal};

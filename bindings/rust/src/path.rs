@@ -46,6 +46,69 @@ pub struct Divided {
     pub joints: Vec<Joints>,
     /// How many were inserted.
     pub inserted: usize,
+    /// The index in `poses` of each given pose, in order; see [`given_indices`].
+    pub given: Vec<usize>,
+}
+
+impl Divided {
+    /// Whether the pose with this index was inserted. False for an index beyond the path.
+    ///
+    /// ```
+    /// use maztubel::{Carrier, Chain, Pose, Rotary, Start, Tolerances, solve_and_divide};
+    ///
+    /// let chain = Chain {
+    ///     rotaries: vec![Rotary {
+    ///         letter: b'A',
+    ///         carrier: Carrier::Table,
+    ///         axis: [1.0, 0.0, 0.0],
+    ///         pivot: [0.0; 3],
+    ///         limits: None,
+    ///     }],
+    ///     spindle: [0.0, 0.0, 1.0],
+    /// };
+    /// let poses = [
+    ///     Pose { tip: [0.0, 0.0, 50.0], axis: [0.0, 0.0, 1.0] },
+    ///     Pose { tip: [0.0, 30.0, 40.0], axis: [0.0, 0.6, 0.8] },
+    /// ];
+    /// let path = solve_and_divide(&chain, &poses, Start::AtZero, 1.0, Tolerances { chord: 2.5, axis: 1.0 })?;
+    /// assert_eq!(path.given, [0, 2]);
+    /// assert_eq!([0, 1, 2, 3].map(|index| path.is_inserted(index)), [false, true, false, false]);
+    /// # Ok::<(), maztubel::Refusal>(())
+    /// ```
+    pub fn is_inserted(&self, index: usize) -> bool {
+        index < self.poses.len() && self.given.binary_search(&index).is_err()
+    }
+}
+
+/// The index of each given pose in a divided path, in order. `given` are the joint sets that the path was divided with,
+/// `divided` those of the result.
+///
+/// Each given joint set is matched with the first one after the previous match that has the same five numbers. This is right
+/// for every division:
+///
+/// - A midpoint lies between its ends in each of the five numbers (crates/float/proofs/Between.antt). So from one given pose
+///   to the next, each number only rises or only falls.
+/// - A midpoint is inserted only where it differs from both its ends in some number. So from one given pose to the next, if
+///   any is inserted, each pose differs from the one before it in some number.
+/// - Together: no inserted pose has the joints of the next given one. The first match is the given pose itself.
+///
+/// Poses alone do not tell: an inserted pose can equal the next given one bit for bit.
+///
+/// [`Divided::given`] is this answer. After [`subdivide_path_into`] the caller has both lists. After
+/// [`solve_and_divide_into`] the first list is what [`solve_path`] gives. If `divided` is not a division of `given`, the
+/// answer ends before the first joint set without a match.
+///
+/// ```
+/// use maztubel::{Joints, given_indices};
+///
+/// let [a, b, c] = [0.0, 1.0, 2.0].map(|x| Joints { position: [x, 0.0, 0.0], angles: [0.0; 2] });
+/// assert_eq!(given_indices(&[a, c, b], &[a, b, c, b]), [0, 2, 3]);
+/// assert_eq!(given_indices(&[a, c, b], &[a, b]), [0]);
+/// ```
+pub fn given_indices(given: &[Joints], divided: &[Joints]) -> Vec<usize> {
+    let mut places = 0..divided.len();
+    let place = |joints: &Joints| places.find(|&index| divided[index] == *joints);
+    given.iter().map_while(place).collect()
 }
 
 /// The joints of every pose, each continuous with the one before it. Inside the cone about the singular direction, in degrees
@@ -143,8 +206,25 @@ pub fn subdivide_path(
     joints: &[Joints],
     tolerances: Tolerances,
 ) -> Result<Divided, Refusal> {
-    divided(poses.len(), |out_poses, out_joints| {
-        subdivide_path_into(chain, poses, joints, tolerances, out_poses, out_joints)
+    // With space for every insertion, so that 28 does not occur.
+    let space = poses.len() + MOST_INSERTED;
+    let mut out_poses = vec![Pose::default(); space];
+    let mut out_joints = vec![Joints::default(); space];
+    let inserted = subdivide_path_into(
+        chain,
+        poses,
+        joints,
+        tolerances,
+        &mut out_poses,
+        &mut out_joints,
+    )?;
+    out_poses.truncate(poses.len() + inserted);
+    out_joints.truncate(poses.len() + inserted);
+    Ok(Divided {
+        given: given_indices(joints, &out_joints),
+        poses: out_poses,
+        joints: out_joints,
+        inserted,
     })
 }
 
@@ -192,7 +272,9 @@ pub fn subdivide_path_into(
     Ok(told.count as usize)
 }
 
-/// The poses solved as by [`solve_path`] and then divided as by [`subdivide_path`].
+/// The poses solved by [`solve_path`] and then divided by [`subdivide_path`]. It makes these two calls because the solved
+/// joints tell which poses were given. [`solve_and_divide_into`] makes the library's one call for both, which is proved to
+/// give the same path, bit for bit, and the same refusals.
 ///
 /// ```
 /// use maztubel::{Carrier, Chain, Pose, Rotary, Start, Tolerances, solve_and_divide};
@@ -223,9 +305,8 @@ pub fn solve_and_divide(
     cone: f64,
     tolerances: Tolerances,
 ) -> Result<Divided, Refusal> {
-    divided(poses.len(), |out_poses, out_joints| {
-        solve_and_divide_into(chain, poses, start, cone, tolerances, out_poses, out_joints)
-    })
+    let joints = solve_path(chain, poses, start, cone)?;
+    subdivide_path(chain, poses, &joints, tolerances)
 }
 
 /// As [`solve_and_divide`], in two slices, with +0.0 behind the path; answers how many poses were inserted. What
@@ -285,22 +366,4 @@ fn told_of_poses(
         0 => Ok(told),
         _ => Err(Refusal::told(told, !kept)),
     }
-}
-
-/// With space for every insertion, so that 28 does not occur.
-fn divided(
-    given: usize,
-    ask: impl FnOnce(&mut [Pose], &mut [Joints]) -> Result<usize, Refusal>,
-) -> Result<Divided, Refusal> {
-    let space = given + MOST_INSERTED;
-    let mut poses = vec![Pose::default(); space];
-    let mut joints = vec![Joints::default(); space];
-    let inserted = ask(&mut poses, &mut joints)?;
-    poses.truncate(given + inserted);
-    joints.truncate(given + inserted);
-    Ok(Divided {
-        poses,
-        joints,
-        inserted,
-    })
 }

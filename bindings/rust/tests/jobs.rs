@@ -1,6 +1,8 @@
 //! The jobs of examples/jobs: each is answered as its `.expected` has it, and stands with its answer in the README there; and the
 //! picture of one in docs.
 
+mod common;
+
 #[path = "../examples/answer.rs"]
 #[allow(dead_code)]
 mod answer;
@@ -8,7 +10,8 @@ mod answer;
 #[allow(dead_code)]
 mod draw;
 
-use maztubel::{Job, Place, Tolerances};
+use common::{arc, job_bytes, table_a};
+use maztubel::{Job, Place, Start, Tolerances, solve_and_divide};
 use std::collections::{BTreeMap, BTreeSet};
 use std::fs;
 use std::path::{Path, PathBuf};
@@ -42,10 +45,29 @@ fn answers() {
 #[test]
 fn the_picture_has_every_pose() {
     let svg = draw::picture(&jobs()["finishing"]).unwrap();
-    let [given, inserted] = ["r=\"4\"", "r=\"2.5\""].map(|dot| svg.matches(dot).count());
-    assert_eq!((given, inserted), (3 * 13 + 1, 3 * 36 + 1));
+    assert_eq!(dots(&svg), [3 * 13 + 1, 3 * 36 + 1]);
     let drawn = Path::new(env!("CARGO_MANIFEST_DIR")).join("../../docs/finishing.svg");
     assert_eq!(fs::read_to_string(drawn).unwrap(), svg);
+}
+
+/// How many dots of the picture stand for given and for inserted poses, in its plots and in the key.
+fn dots(svg: &str) -> [usize; 2] {
+    ["r=\"4\"", "r=\"2.5\""].map(|dot| svg.matches(dot).count())
+}
+
+/// A path that comes back to the pose that was inserted: one plot of tips and one of angles, with three given poses and one
+/// inserted.
+#[test]
+fn the_picture_of_a_midpoint_that_is_given_later() {
+    let path = arc(3);
+    let ends = [path[0], path[2]];
+    let bytes = job_bytes(&table_a(), &ends);
+    let job = Job::read(&bytes).unwrap();
+    let two = solve_and_divide(&job.chain, &ends, Start::AtZero, job.cone, job.tolerances).unwrap();
+    assert_eq!(two.inserted, 1);
+    let bytes = job_bytes(&table_a(), &[ends[0], ends[1], two.poses[1]]);
+    let svg = draw::picture(&bytes).unwrap();
+    assert_eq!(dots(&svg), [2 * 3 + 1, 2 + 1]);
 }
 
 /// The bits of a number; every nan is one, as the library has it.

@@ -231,6 +231,43 @@ fn what_the_call_of_both_keeps() {
     assert_eq!(ask(&head_c(Z, None), &path, 1.0, fine, 9), (25, false));
 }
 
+/// The form that solves and then divides is refused as the library's call of both is.
+#[test]
+fn both_forms_refuse_alike() {
+    let alike = |number, chain: &Chain, poses: &[Pose], cone, tolerances| {
+        let apart = solve_and_divide(chain, poses, Start::AtZero, cone, tolerances).unwrap_err();
+        let space = poses.len() + MOST_INSERTED;
+        let both = solve_and_divide_into(
+            chain,
+            poses,
+            Start::AtZero,
+            cone,
+            tolerances,
+            &mut vec![Pose::default(); space],
+            &mut vec![Joints::default(); space],
+        );
+        assert_eq!((apart.number(), Err(apart)), (number, both));
+    };
+    let (path, broken) = (arc(5), [pose([0.0; 3], Z), pose([0.0, f64::NAN, 0.0], Z)]);
+    let unserved = changed(|c| c.rotaries[1].letter = b'A');
+    let bad = Tolerances {
+        chord: 0.0,
+        ..TOLERANCES
+    };
+    let finest = Tolerances {
+        chord: 1e-12,
+        axis: 1e-9,
+    };
+    alike(18, &unserved, &broken, 0.0, bad);
+    alike(5, &unserved, &broken, 1.0, bad);
+    alike(16, &tables(), &broken, 1.0, bad);
+    alike(25, &head_c(Z, None), &path, 1.0, bad);
+    alike(17, &tables(), &vec![path[0]; 100_001], 1.0, bad);
+    alike(19, &tables(), &path, 1.0, bad);
+    alike(19, &tables(), &[], 1.0, bad);
+    alike(27, &tables(), &path, 1.0, finest);
+}
+
 #[test]
 fn division() {
     let (chain, poses, joints) = (tables(), arc(3), solved(&tables(), &arc(3)).unwrap());

@@ -174,11 +174,22 @@ fn solved_then_divided_is_the_call_of_both() {
         chord: 0.01,
         axis: 0.5,
     };
-    let joints = solve_path(&chain, &poses, Start::AtZero, 1.0).unwrap();
-    let apart = subdivide_path(&chain, &poses, &joints, tolerances).unwrap();
-    let both = solve_and_divide(&chain, &poses, Start::AtZero, 1.0, tolerances).unwrap();
-    assert!(both.inserted > 0);
-    assert_eq!(apart, both);
+    let apart = solve_and_divide(&chain, &poses, Start::AtZero, 1.0, tolerances).unwrap();
+    assert!(apart.inserted > 0);
+    let space = apart.poses.len();
+    let (mut out_poses, mut out_joints) =
+        (vec![Pose::default(); space], vec![Joints::default(); space]);
+    let both = solve_and_divide_into(
+        &chain,
+        &poses,
+        Start::AtZero,
+        1.0,
+        tolerances,
+        &mut out_poses,
+        &mut out_joints,
+    );
+    assert_eq!(both, Ok(apart.inserted));
+    assert_eq!((out_poses, out_joints), (apart.poses, apart.joints));
 }
 
 #[test]
