@@ -94,7 +94,7 @@ reasons! {
     NotReachable = 21, "the rotaries must reach the tool axis";
     OutsideLimits = 22,
         "the rotaries must reach the tool axis within their limits, without limits above -180 and at most 180 \
-         degrees";
+         degrees, with at most 2 turns added or taken away";
     BranchFlips = 23,
         "a pose must keep the rotary branch, its angles at most 90 degrees from the solution closest to the pose \
          before";

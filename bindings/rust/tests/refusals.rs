@@ -92,6 +92,36 @@ fn forward_and_inverse() {
     );
 }
 
+/// The bounds that the texts of 7, 9, 14, 15, 17 and 22 name, from both sides.
+#[test]
+fn bounds_of_the_texts() {
+    let length = |length| forward(&tables(), &Joints::default(), length).map_err(|r| r.number());
+    assert!(length(-0.0).is_ok() && length(100_000.0).is_ok());
+    assert_eq!([-5e-324, f64::INFINITY, f64::NAN].map(length), [Err(14); 3]);
+    assert_eq!(length(100_000.1), Err(17));
+    let checked =
+        |change: &dyn Fn(&mut Chain)| check_chain(&changed(change)).map_err(|r| r.number());
+    assert_eq!(checked(&|c| c.rotaries[0].axis = [1e-15; 3]), Err(7));
+    assert_eq!(
+        checked(&|c| c.rotaries[0].axis = [1.1e-15, 0.0, 0.0]),
+        Ok(())
+    );
+    assert_eq!(checked(&|c| c.spindle = [-1e-15; 3]), Err(9));
+    assert_eq!(checked(&|c| c.spindle = [0.0, -1.1e-15, 0.0]), Ok(()));
+    assert_eq!(checked(&|c| c.spindle[1] = 1e200), Err(9));
+    // The axis of a C head along its spindle leaves its angle free, which is then the hint.
+    let found = |axis, hint| {
+        let list = inverse(&head_c(Z, None), &pose([0.0; 3], axis), 0.0, [hint, 0.0]);
+        list.map(|list| list[0].angles[0]).map_err(|r| r.number())
+    };
+    assert_eq!(found([1e-15; 3], 0.0), Err(15));
+    assert_eq!(found([0.0, 0.0, f64::NAN], 0.0), Err(15));
+    assert_eq!(found([0.0, 0.0, 1.1e-15], 0.0), Ok(0.0));
+    assert_eq!([900.0, -180.0].map(|hint| found(Z, hint)), [Ok(180.0); 2]);
+    assert_eq!([901.0, -900.0].map(|hint| found(Z, hint)), [Err(22); 2]);
+    assert_eq!(found(Z, 36_001.0), Err(17));
+}
+
 fn solved(chain: &Chain, poses: &[Pose]) -> Result<Vec<Joints>, Refusal> {
     solve_path(chain, poses, Start::AtZero, 1.0)
 }
