@@ -54,7 +54,8 @@ pub struct Rotary {
 /// assert_eq!(chain.bytes().len(), 176);
 ///
 /// chain.rotaries[1].letter = b'A';
-/// assert_eq!(check_chain(&chain).unwrap_err().to_string(), "refused 5: two rotaries must have different letters: rotary 1");
+/// let refusal = check_chain(&chain).unwrap_err();
+/// assert_eq!(refusal.to_string(), "refused 5: two rotaries must have different letters: rotary 1");
 /// # Ok::<(), maztubel::Refusal>(())
 /// ```
 #[derive(Clone, Debug, PartialEq)]

@@ -80,23 +80,23 @@ impl Divided {
     }
 }
 
-/// The index of each given pose in a divided path, in order. `given` are the joint sets that the path was divided with,
-/// `divided` those of the result.
+/// The index of each given pose in a divided path, in order. `given` are the joint sets that the path was divided
+/// with, `divided` those of the result.
 ///
-/// Each given joint set is matched with the first one after the previous match that has the same five numbers. This is right
-/// for every division:
+/// Each given joint set is matched with the first one after the previous match that has the same five numbers. This
+/// is right for every division:
 ///
-/// - A midpoint lies between its ends in each of the five numbers (crates/float/proofs/Between.antt). So from one given pose
-///   to the next, each number only rises or only falls.
-/// - A midpoint is inserted only where it differs from both its ends in some number. So from one given pose to the next, if
-///   any is inserted, each pose differs from the one before it in some number.
+/// - A midpoint lies between its ends in each of the five numbers (crates/float/proofs/Between.antt). So from one
+///   given pose to the next, each number only rises or only falls.
+/// - A midpoint is inserted only where it differs from both its ends in some number. So from one given pose to the
+///   next, if any is inserted, each pose differs from the one before it in some number.
 /// - Together: no inserted pose has the joints of the next given one. The first match is the given pose itself.
 ///
 /// Poses alone do not tell: an inserted pose can equal the next given one bit for bit.
 ///
 /// [`Divided::given`] is this answer. After [`subdivide_path_into`] the caller has both lists. After
-/// [`solve_and_divide_into`] the first list is what [`solve_path`] gives. If `divided` is not a division of `given`, the
-/// answer ends before the first joint set without a match.
+/// [`solve_and_divide_into`] the first list is what [`solve_path`] gives. If `divided` is not a division of `given`,
+/// the answer ends before the first joint set without a match.
 ///
 /// ```
 /// use maztubel::{Joints, given_indices};
@@ -272,9 +272,9 @@ pub fn subdivide_path_into(
     Ok(told.count as usize)
 }
 
-/// The poses solved by [`solve_path`] and then divided by [`subdivide_path`]. It makes these two calls because the solved
-/// joints tell which poses were given. [`solve_and_divide_into`] makes the library's one call for both, which is proved to
-/// give the same path, bit for bit, and the same refusals.
+/// The poses solved by [`solve_path`] and then divided by [`subdivide_path`]. It makes these two calls because the
+/// solved joints tell which poses were given. [`solve_and_divide_into`] makes the library's one call for both, which
+/// is proved to give the same path, bit for bit, and the same refusals.
 ///
 /// ```
 /// use maztubel::{Carrier, Chain, Pose, Rotary, Start, Tolerances, solve_and_divide};

@@ -5,8 +5,8 @@ mod common;
 use common::*;
 use maztubel::*;
 
-/// The halving of a path is the halvings of its pairs, one behind the other: where the given poses stand then follows from
-/// how many poses each pair gets.
+/// The halving of a path is the halvings of its pairs, one behind the other: where the given poses stand then follows
+/// from how many poses each pair gets.
 fn from_pairs(
     chain: &Chain,
     poses: &[Pose],
@@ -23,7 +23,8 @@ fn from_pairs(
     places
 }
 
-/// The division, once it is held to its pairs: the given poses stand where they say, bit for bit, and the rest is inserted.
+/// The division, once it is held to its pairs: the given poses stand where they say, bit for bit, and the rest is
+/// inserted.
 fn held(chain: &Chain, poses: &[Pose], joints: &[Joints], tolerances: Tolerances) -> Divided {
     let path = subdivide_path(chain, poses, joints, tolerances).unwrap();
     assert_eq!(path.given, from_pairs(chain, poses, joints, tolerances));
@@ -109,7 +110,8 @@ fn a_midpoint_that_is_given_later() {
     assert_eq!(inserted, [false, true, false, false]);
 }
 
-/// Far from the pivot the pose between two that lie close together rounds to that of the next given one; its joints do not.
+/// Far from the pivot the pose between two that lie close together rounds to that of the next given one; its joints
+/// do not.
 #[test]
 fn a_pose_that_is_the_next_given_one() {
     let mut chain = head_c(Z, None);
@@ -210,8 +212,8 @@ fn random_tolerances(random: &mut Random) -> Tolerances {
     }
 }
 
-/// Joints that repeat, that are the midpoint of two before them, that hardly differ, and that do. The poses are theirs, but that
-/// one may be the pose halfway from the one before it.
+/// Joints that repeat, that are the midpoint of two before them, that hardly differ, and that do. The poses are
+/// theirs, but that one may be the pose halfway from the one before it.
 fn random_path(random: &mut Random, chain: &Chain) -> (Vec<Pose>, Vec<Joints>) {
     let mut joints = vec![Joints::default()];
     while joints.len() < 8 {

@@ -55,8 +55,8 @@ fn dots(svg: &str) -> [usize; 2] {
     ["r=\"4\"", "r=\"2.5\""].map(|dot| svg.matches(dot).count())
 }
 
-/// A path that comes back to the pose that was inserted: one plot of tips and one of angles, with three given poses and one
-/// inserted.
+/// A path that comes back to the pose that was inserted: one plot of tips and one of angles, with three given poses
+/// and one inserted.
 #[test]
 fn the_picture_of_a_midpoint_that_is_given_later() {
     let path = arc(3);
