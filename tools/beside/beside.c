@@ -1,5 +1,5 @@
-/* Two builds of the library in one process: each row of the table is one entry over the same inputs, in turns, best round
- * of many, and the number of answers that are not the same bits in both. `run` makes the four shared libraries. */
+/* Two builds of the library in one process: each row of the table is one entry over the same inputs, in turns, the best
+ * round of many, and the number of answers that are not the same bits in both. `run` makes the four shared libraries. */
 #define _POSIX_C_SOURCE 200809L
 #include <dlfcn.h>
 #include <math.h>
@@ -15,13 +15,14 @@ static const double PI = 3.14159265358979323846, TOOL_LENGTH = 120.0, CONE = 1.0
 typedef uint32_t One(double, double *);
 typedef uint32_t Two(double, double, double *);
 typedef uint32_t Pair(double, double *, double *);
-typedef uint32_t Forward(const uint8_t *, size_t, const double *, size_t, double, double *, size_t, uint64_t *, uint8_t *);
-typedef uint32_t Inverse(const uint8_t *, size_t, const double *, size_t, double, const double *, size_t, double *, size_t,
-                         uint64_t *, uint64_t *, uint8_t *);
+typedef uint32_t Forward(const uint8_t *, size_t, const double *, size_t, double, double *, size_t, uint64_t *,
+                         uint8_t *);
+typedef uint32_t Inverse(const uint8_t *, size_t, const double *, size_t, double, const double *, size_t, double *,
+                         size_t, uint64_t *, uint64_t *, uint8_t *);
 typedef uint32_t Solve(const uint8_t *, size_t, const double *, size_t, const double *, size_t, double, double *, size_t,
                        uint64_t *, uint8_t *);
-typedef uint32_t Subdivide(const uint8_t *, size_t, const double *, size_t, const double *, size_t, double, double, double *,
-                           size_t, double *, size_t, uint64_t *, uint64_t *, uint8_t *);
+typedef uint32_t Subdivide(const uint8_t *, size_t, const double *, size_t, const double *, size_t, double, double,
+                           double *, size_t, double *, size_t, uint64_t *, uint64_t *, uint8_t *);
 typedef uint32_t Both(const uint8_t *, size_t, const double *, size_t, const double *, size_t, double, double, double,
                       double *, size_t, double *, size_t, uint64_t *, uint64_t *, uint8_t *);
 
@@ -176,12 +177,16 @@ static void solves(const Build *b, const Input *in, Output *out) {
     out->count = 5 * POSES;
 }
 
-static void subdivides(const Build *b, const Input *in, Output *out) {
-    uint64_t inserted, at;
+static uint32_t subdivided(const Build *b, const Input *in, Output *out, uint64_t *inserted) {
+    uint64_t at;
     uint8_t letter;
-    out->refused |= b->subdivide(in->chain, in->chain_length, in->poses, 6 * POSES, in->joints, 5 * POSES, in->chord,
-                                 in->axis, out->numbers, 6 * SPACE, out->numbers + 6 * SPACE, 5 * SPACE, &inserted, &at,
-                                 &letter);
+    return b->subdivide(in->chain, in->chain_length, in->poses, 6 * POSES, in->joints, 5 * POSES, in->chord, in->axis,
+                        out->numbers, 6 * SPACE, out->numbers + 6 * SPACE, 5 * SPACE, inserted, &at, &letter);
+}
+
+static void subdivides(const Build *b, const Input *in, Output *out) {
+    uint64_t inserted;
+    out->refused |= subdivided(b, in, out, &inserted);
     out->count = 11 * SPACE;
 }
 
@@ -213,15 +218,17 @@ static uint8_t *put_rotary(uint8_t *to, char letter, char carrier, const double 
     return to + 72;
 }
 
-/* One letter for each rotary, t a table and h a head: A about x or a slanted axis, C about z. */
+/* One letter for each rotary, t a table and h a head: A about x or a slanted axis, and C about z. Of two heads C is the
+ * outer one, or it would not move the tool. */
 static void take_machine(Input *in, const char *carriers, double slant) {
-    const double first[3] = {1.0, slant, 0.0}, z[3] = {0.0, 0.0, 1.0};
+    const double a[3] = {1.0, slant, 0.0}, c[3] = {0.0, 0.0, 1.0};
+    int heads = carriers[0] == 'h' && carriers[1] == 'h';
     uint8_t *to = in->chain;
     memset(to, 0, 8);
     to[0] = (uint8_t)strlen(carriers);
-    to = put_rotary(to + 8, 'A', carriers[0], first);
-    if (carriers[1]) to = put_rotary(to, 'C', carriers[1], z);
-    in->chain_length = (size_t)(put(to, z, 3) - in->chain);
+    to = heads ? put_rotary(to + 8, 'C', 'h', c) : put_rotary(to + 8, 'A', carriers[0], a);
+    if (carriers[1]) to = heads ? put_rotary(to, 'A', 'h', a) : put_rotary(to, 'C', carriers[1], c);
+    in->chain_length = (size_t)(put(to, c, 3) - in->chain);
 }
 
 static void draw_joint_sets(Input *in) {
@@ -244,13 +251,19 @@ static void lay_path(Input *in) {
     }
 }
 
-/* The joints of the path, as the first build solves it, for a division in both. */
+/* The joints of the path, as the first build solves it, for a division in both; and the tightest of a row of tolerances
+ * under which it inserts at most as many poses as are given. */
 static void take_path(const Build *b, Input *in, Output *out) {
+    uint64_t inserted = 0;
     out->refused = 0;
     solves(b, in, out);
     memcpy(in->joints, out->numbers, 5 * POSES * sizeof(double));
-    in->chord = 0.002;
-    in->axis = 0.3;
+    for (in->chord = 1e-5; in->chord < 1.0; in->chord *= 1.1) {
+        in->axis = 10.0 * in->chord;
+        if (!subdivided(b, in, out, &inserted) && inserted <= POSES) return;
+    }
+    fprintf(stderr, "no tolerance divides the path\n");
+    exit(1);
 }
 
 /* ---- the table */
@@ -375,8 +388,8 @@ static size_t about(const Build builds[2], double x, size_t *asked) {
 }
 
 static void bits(const Build builds[2]) {
-    static const double edges[] = {0.0, 0x1p-1074, 0x1p-1022, 0x1p-540, 0x1p-53, 0x1p-27, 1e-9, 0.5, 0.79, 1.0, 800.0, 801.0,
-                                   0x1p53, 0x1p1023, INFINITY, NAN};
+    static const double edges[] = {0.0, 0x1p-1074, 0x1p-1022, 0x1p-540, 0x1p-53, 0x1p-27, 1e-9, 0.5,
+                                   0.79, 1.0, 800.0, 801.0, 0x1p53, 0x1p1023, INFINITY, NAN};
     size_t differ = 0, asked = 0;
     for (size_t i = 0; i < sizeof edges / sizeof *edges; i++) differ += about(builds, edges[i], &asked);
     for (int k = 1; k <= 1020; k++) differ += about(builds, (double)k * (0.25 * PI), &asked);
@@ -388,8 +401,7 @@ static void bits(const Build builds[2]) {
         memcpy(&x, &pattern, sizeof x);
         differ += !alike(builds, within(800.0)) + !alike(builds, within(PI)) + !alike(builds, x);
     }
-    printf("sine, cosine and their pair: %d random arguments, a third each within 800, within pi and of any bits, %zu differ\n",
-           3 * RANDOM_BITS, differ);
+    printf("sine, cosine and their pair: %d random arguments, %zu differ\n", 3 * RANDOM_BITS, differ);
 }
 
 int main(int count, char **words) {
