@@ -52,13 +52,13 @@ unfoldable pub tablesForth : Prepared → Float → Float → Turns
 tablesForth p a0 a1 = record { first = swingForth (p .first .mount) a0; second = swingForth (p .second .mount) a1 }
 
 -- the same, from the turns by which forward moves the rotaries: a table's is the turn back
-abbrev pub swingFrom : Mount → Turn → Float → Turn
-swingFrom Table back angle = turnedBack back angle
-swingFrom Head back angle = still
-swingFrom Absent back angle = still
+abbrev pub swingFrom : Mount → Turn → Turn
+swingFrom Table back = turnedBack back
+swingFrom Head back = still
+swingFrom Absent back = still
 
-unfoldable pub forthFrom : Prepared → Turns → Float → Float → Turns
-forthFrom p back a0 a1 = record { first = swingFrom (p .first .mount) (back .first) a0; second = swingFrom (p .second .mount) (back .second) a1 }
+unfoldable pub forthFrom : Prepared → Turns → Turns
+forthFrom p back = record { first = swingFrom (p .first .mount) (back .first); second = swingFrom (p .second .mount) (back .second) }
 
 -- ---- one rotary: a head moves what is on the tool side, a table what is on the part side
 abbrev pub byHead : {A : Type 0} → Mount → A → A → A

@@ -290,11 +290,11 @@ pub fn forward_from(bytes: &[u8], j: Joints, tool_length: f64) -> Posed
 }
 
 // How the position turns a rotary, from the turn by which forward moves it.
-fn swing_from(mount: Mount, back: Turn, angle: f64) -> Turn
-    ensures { λ r. ⌜ r ≡ S.swingFrom mount back angle ⌝ }
+fn swing_from(mount: Mount, back: Turn) -> Turn
+    ensures { λ r. ⌜ r ≡ S.swingFrom mount back ⌝ }
 {
     match mount {
-        Mount::Table => back.turned_back(angle),
+        Mount::Table => back.turned_back(),
         Mount::Head => Turn {
             sine: 0.0,
             cosine: 1.0,
@@ -307,14 +307,14 @@ fn swing_from(mount: Mount, back: Turn, angle: f64) -> Turn
 }
 
 // The tables forth, from `turns_of` at the same angles, with no sine or cosine made anew.
-pub fn forth_from(p: Prepared, back: Turns, a0: f64, a1: f64) -> Turns
-    ensures { λ r. ⌜ r ≡ S.forthFrom p back a0 a1 ⌝ }
+pub fn forth_from(p: Prepared, back: Turns) -> Turns
+    ensures { λ r. ⌜ r ≡ S.forthFrom p back ⌝ }
 {
     let outer = p.first;
     let inner = p.second;
     let outer_mount = outer.mount;
     let inner_mount = inner.mount;
-    let first = swing_from(outer_mount, back.first, a0);
-    let second = swing_from(inner_mount, back.second, a1);
+    let first = swing_from(outer_mount, back.first);
+    let second = swing_from(inner_mount, back.second);
     Turns { first, second }
 }

@@ -1,2 +1,4 @@
 pub mod Range
 pub mod TurningBack
+pub mod RightAngles
+pub mod TurnPair

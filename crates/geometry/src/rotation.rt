@@ -1,4 +1,5 @@
-// Turning by Rodrigues' formula, about a unit axis, by the sine and cosine of the angle. A turn comes from degrees by `Turn::of`; turning back is the turn of the negated degrees, and each gives the other by its sine negated.
+// Turning by Rodrigues' formula, about a unit axis, by the sine and cosine of the angle. A turn comes from degrees by
+// `Turn::of`; turning back is the turn of the negated degrees, and each gives the other by its sine negated.
 ghost use mathlib.Core.Path.{_≡_};
 ghost use Rattle.geometry.specs.Turn as S;
 use crate::Turn;
@@ -11,11 +12,12 @@ use crate::vector::sub;
 use trig::PairAnswer;
 
 impl Turn {
-    // By that many degrees, right-handed. Outside the range of sine, from about 45,836 degrees on, it is no turn at all.
+    // By that many degrees, right-handed. Beyond 45,000 degrees, and for a NaN, it is no turn at all: the checks keep
+    // every entry within that.
     pub fn of(degrees: f64) -> Turn
         ensures { λ r. ⌜ r ≡ S.turnOf degrees ⌝ }
     {
-        let PairAnswer::Values(p) = trig::sine_cosine(float::to_radians(degrees)) else {
+        let PairAnswer::Values(p) = trig::of_degrees(degrees) else {
             return Turn {
                 sine: 0.0,
                 cosine: 1.0,
@@ -27,18 +29,12 @@ impl Turn {
         }
     }
 
-    // By that many degrees, from the turn by as many back.
-    pub fn turned_back(self, degrees: f64) -> Turn
-        ensures { λ r. ⌜ r ≡ S.turnedBack self degrees ⌝ }
+    // By as many degrees forth, from the turn back: with no sine or cosine made anew.
+    pub fn turned_back(self) -> Turn
+        ensures { λ r. ⌜ r ≡ S.turnedBack self ⌝ }
     {
-        if !(-45000.0 <= degrees) {
-            return Turn::of(degrees);
-        }
-        if !(degrees <= 45000.0) {
-            return Turn::of(degrees);
-        }
         Turn {
-            sine: -self.sine,
+            sine: 0.0 - self.sine,
             cosine: self.cosine,
         }
     }

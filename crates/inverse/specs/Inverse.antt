@@ -50,7 +50,7 @@ unfoldable pub poseFrom : Prepared → Turns → Float → ToolPose
 poseFrom p turns tool = forwardCore p turns origin tool
 
 unfoldable pub jointsFrom : Prepared → Turns → Angles → Vec3 → Vec3 → Joints
-jointsFrom p turns angles tip tip0 = record { xyz = position p (forthFrom p turns (angles .a0) (angles .a1)) tip tip0; a0 = angles .a0; a1 = angles .a1 }
+jointsFrom p turns angles tip tip0 = record { xyz = position p (forthFrom p turns) tip tip0; a0 = angles .a0; a1 = angles .a1 }
 
 -- ---- the pairs that reach the target, in order
 unfoldable pub reached : Prepared → Vec3 → Vec3 → Float → List Angles → List Joints

@@ -55,7 +55,7 @@ pub fn misses(axis: Vec3, target: Vec3) -> bool
 pub fn joints_from(p: Prepared, turns: Turns, angles: Angles, tip: Vec3, tip0: Vec3) -> Joints
     ensures { λ r. ⌜ r ≡ S.jointsFrom p turns angles tip tip0 ⌝ }
 {
-    let forth = chain::forth_from(p, turns, angles.a0, angles.a1);
+    let forth = chain::forth_from(p, turns);
     let xyz = chain::position(p, forth, tip, tip0);
     Joints {
         xyz,

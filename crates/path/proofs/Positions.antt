@@ -1,31 +1,22 @@
--- Where no number of the chain and of the tip is past 100,000, the position of every pair of angles is finite: a sine is at most a little over 1, and nothing in between can overflow.
-use mathlib.Core.Path.{_≡_, refl, sym, ap, _∙_, subst}
-use mathlib.Core.Bool.{Bool, true, false, not, cond, true≢false, false≢true}
-use Prim.Native.Nat.{ℕ, zero, suc, _+_, _*_, _^_, _%_, _≤_, _<_}
-use native.Mathlib.Nat.{le-trans, le-of-mul-le-mul-right, mul-le-mul-right}
+-- Where no number of the chain and of the tip is past 100,000, the position of every pair of angles is finite: a sine
+-- is at most a little over 1, and nothing in between can overflow.
+use mathlib.Core.Path.{_≡_, refl}
+use mathlib.Core.Bool.{Bool, true, false, not, cond, false≢true}
+use Prim.Native.Nat.{ℕ, _+_, _*_, _^_, _≤_}
+use native.Mathlib.Nat.{le-trans}
 use native.Mathlib.Omega.{arith}
 use lib.Dec.{T, lit≤}
-use lib.IntN.{ℤ}
-use lib.Ieee.{Float, nan, inf, fin, binary64, up, down, sub, mul, neg, ofBits, le, lt, eq, fits}
-use lib.Ieee.Bits.{ofBits-fits}
-use lib.Ieee.Fits.{down-pos, cond-fits, mul-fits, sub-fits, neg-fits}
+use lib.Ieee.{Float, nan, inf, fin, binary64, neg, ofBits, le, lt, eq, fits}
 use lib.Ieee.Scale.{finite}
 use Rattle.float.specs.Units.{U, Is}
-use Rattle.float.specs.Helpers.{nought, one, sizeOf, toRadians}
-use Rattle.float.proofs.Units.{held}
+use Rattle.float.specs.Helpers.{nought, one, sizeOf}
+use Rattle.float.proofs.Units.{Held, held}
 use Rattle.float.proofs.Sizes.{size-is}
 use Rattle.float.proofs.Signed.{val-le}
-use Rattle.trig.specs.Kernel.{step, sum, sineKernel, cosineKernel}
-use Rattle.trig.specs.Kernel as Kernel
-use Rattle.trig.specs.Reduction.{turnK, turnBelow, turnRest}
-use Rattle.trig.specs.Waves.{placed, waveFloat, sineFloat, cosineFloat, served, sineOf, cosineOf, paired, Sized, SineAnswer, CosineAnswer}
-use Rattle.trig.specs.declared.Answer.{Answer}
-use Rattle.trig.specs.declared.Answer.the-variants.{Value, OutOfRange}
-use Rattle.trig.proofs.Laws.{sine-answer, cosine-answer}
 use Rattle.geometry.specs.declared.Vec3.{Vec3}
 use Rattle.geometry.specs.declared.Turn.{Turn}
-use Rattle.geometry.specs.Turn.{turned, turnOf, rotateVector, rotatePoint}
-use Rattle.geometry.specs.Vector as G
+use Rattle.geometry.specs.Turn.{turnOf}
+use Rattle.geometry.proofs.TurnPair.{turn-pair}
 use Rattle.geometry.specs.Direction.{allFinite}
 use Rattle.chain.specs.declared.Mount.{Mount}
 use Rattle.chain.specs.declared.Mount.the-variants.{Table, Head, Absent}
@@ -43,59 +34,17 @@ use Rattle.path.specs.declared.Candidate.{Candidate}
 use Rattle.path.specs.declared.Candidate.the-variants as Candidate
 use Rattle.path.proofs.Bounded.{Small, SmallVec, SmallTurn, small-finite, raise, one-small, vec-add, vec-sub, vec-scale, turned-vector, turned-point}
 
--- ---- a sine and a cosine are doubles
-sum-fits : (n p : ℕ) (z taken : Float) → T (fits binary64 taken) → T (fits binary64 (sum z taken p n))
-unfolding sum
-sum-fits zero p z taken f = f
-sum-fits (suc n) p z taken f = sum-fits n p z (step z (p + 2 * n) taken) (unfold step in sub-fits binary64 Kernel.one _)
-
-sine-kernel-fits : (r : Float) → T (fits binary64 (sineKernel r))
-unfolding sineKernel
-sine-kernel-fits r = mul-fits binary64 r _
-
-cosine-kernel-fits : (r : Float) → T (fits binary64 (cosineKernel r))
-unfolding cosineKernel
-cosine-kernel-fits r = sum-fits 12 0 (mul binary64 r r) Kernel.one (ofBits-fits binary64 0x3ff0_0000_0000_0000)
-
-placed-fits : (k : ℕ) (b : Bool) (s c : Float) → T (fits binary64 s) → T (fits binary64 c) → T (fits binary64 (placed k b s c))
-placed-fits zero b s c f g = cond-fits binary64 b (neg s) s (neg-fits binary64 s f) f
-placed-fits (suc zero) b s c f g = g
-placed-fits (suc (suc zero)) b s c f g = cond-fits binary64 b s (neg s) f (neg-fits binary64 s f)
-placed-fits (suc (suc (suc k))) b s c f g = neg-fits binary64 c g
-
-wave-fits : (j : ℕ) (a : Float) → T (fits binary64 (waveFloat j a))
-unfolding waveFloat
-wave-fits j a = placed-fits ((turnK a + j) % 4) (turnBelow a) _ _ (sine-kernel-fits (turnRest a)) (cosine-kernel-fits (turnRest a))
-
-abbrev Fit : Answer → Type 0
-Fit (Value y) = T (fits binary64 y)
-Fit OutOfRange = Unit {0}
-
-served-fit : (b : Bool) (y : Float) → T (fits binary64 y) → Fit (cond b (Value y) OutOfRange)
-served-fit true y f = f
-served-fit false y f = tt
-
-sine-fit : (x : Float) → T (fits binary64 x) → Fit (sineOf x)
-unfolding sineOf sineFloat
-sine-fit x f = served-fit (served x) (sineFloat x) (cond-fits binary64 (eq x Kernel.plusZero) x _ f (cond-fits binary64 (lt x Kernel.plusZero) _ _ (neg-fits binary64 _ (wave-fits 0 (neg x))) (wave-fits 0 x)))
-
-cosine-fit : (x : Float) → Fit (cosineOf x)
-unfolding cosineOf cosineFloat
-cosine-fit x = served-fit (served x) (cosineFloat x) (cond-fits binary64 (eq x Kernel.plusZero) Kernel.one _ (ofBits-fits binary64 0x3ff0_0000_0000_0000) (cond-fits binary64 (lt x Kernel.plusZero) _ _ (wave-fits 1 (neg x)) (wave-fits 1 x)))
-
--- ---- and at most 2
-sized-most : (a d v u : ℕ) → 0 < d → a * u ≡ v * d → 2 ^ 50 * a ≤ (2 ^ 50 + 1) * d → v ≤ 2 * u
-sized-most a d v u D e h = le-of-mul-le-mul-right {k = d} (go (mul-le-mul-right u h)) D
+-- ---- a sine and a cosine are at most 2
+held-small : (y : Float) (k : Held y) → 2 ^ 50 * k .v ≤ (2 ^ 50 + 1) * U → Small 1 y
+held-small y k h = record { s = k .s; v = k .v; is = k .is; most = go (k .v) U h }
   where
-    go : 2 ^ 50 * a * u ≤ (2 ^ 50 + 1) * d * u → v * d ≤ 2 * u * d
-    go l = omega arith
+    go : (v u : ℕ) → 2 ^ 50 * v ≤ (2 ^ 50 + 1) * u → v ≤ 2 ^ 1 * u
+    go v u l = omega arith
 
-sized-small : (y : Float) → T (fits binary64 y) → finite y ≡ true → Sized y → Small 1 y
-sized-small nan f h b = absurd (false≢true h)
-sized-small (inf s) f h b = absurd (false≢true h)
-sized-small (fin s m e) f h b =
-    let k = held (fin s m e) f tt in
-    record { s = k .s; v = k .v; is = k .is; most = sized-most (m * up e) (down e) (k .v) U (down-pos e) (k .is .1) b }
+turn-small : (degrees : Float) → SmallTurn (turnOf degrees)
+turn-small degrees =
+    let t = turn-pair degrees in
+    (held-small (turnOf degrees .sine) (t .sine) (t .sine-most), held-small (turnOf degrees .cosine) (t .cosine) (t .cosine-most))
 
 pub nought-small : Small 0 nought
 unfolding ofBits U
@@ -107,18 +56,6 @@ below-small = record { s = true; v = 0; is = (refl, refl); most = lit≤ tt }
 
 still-small : SmallTurn still
 still-small = (raise 0 1 nought (lit≤ tt) nought-small, raise 0 1 one (lit≤ tt) one-small)
-
-turned-small : (x : Float) (s c : Answer) → SineAnswer x s → CosineAnswer x c → Fit s → Fit c → SmallTurn (turned (paired s c))
-turned-small x (Value s) (Value c) p q f g = (sized-small s f (p .1 .isFinite) (p .1 .size), sized-small c g (q .1 .isFinite) (q .1 .size))
-turned-small x (Value s) OutOfRange p q f g = still-small
-turned-small x OutOfRange c p q f g = still-small
-
-turn-small : (degrees : Float) → SmallTurn (turnOf degrees)
-unfolding turnOf toRadians
-turn-small degrees =
-    let x = mul binary64 degrees (ofBits binary64 0x3f91_df46_a252_9d39) in
-    let f = mul-fits binary64 degrees (ofBits binary64 0x3f91_df46_a252_9d39) in
-    turned-small x (sineOf x) (cosineOf x) (sine-answer x f) (cosine-answer x f) (sine-fit x f) (cosine-fit x)
 
 swing-small : (m : Mount) (angle : Float) → SmallTurn (swing m angle)
 swing-small Table angle = turn-small (neg angle)

@@ -1,4 +1,6 @@
-// Only for tests: functions under C names that the static library does not export, so that the Rust in oracle/ can call what was proved and hold it to the standard library: those of `float`, `sine_cosine` of `trig`, and the inner form of `chain`'s forward. Nothing else may be built on it.
+// Only for tests: functions under C names that the static library does not export, so that the Rust in oracle/ can call
+// what was proved and hold it to the standard library and to document 01: those of `float`, `sine_cosine` and
+// `of_degrees` of `trig`, and the inner form of `chain`'s forward. Nothing else may be built on it.
 mod forwards;
 
 ghost use Prim.Native.Nat.{min};
@@ -8,6 +10,7 @@ ghost use Rattle.float.specs.Helpers as S;
 ghost use Rattle.float.specs.TotalOrder as Total;
 ghost use Rattle.root.specs.Root as Root;
 ghost use Rattle.trig.specs.Waves as Waves;
+ghost use Rattle.trig.specs.Degrees as Degrees;
 ghost use Rattle.probe.specs.Answers.{number, rootsOver, pairNumber, sineOver, cosineOver};
 use float::Comparison;
 use trig::PairAnswer;
@@ -113,7 +116,7 @@ fn shorter(a: usize, b: usize) -> usize
     if a < b { a } else { b }
 }
 
-// Both from one reduction: 0 and both written, or 17 and both kept.
+// Both of an angle in radians, from one reduction: 0 and both written, or 17 and both kept.
 #[no_mangle]
 pub extern "C" fn probe_sine_cosine(x: f64, sine: &mut f64, cosine: &mut f64) -> u32
     ensures number { λ n. ⌜ n ≡ pairNumber (Waves.paired (Waves.sineOf x) (Waves.cosineOf x)) ⌝ }
@@ -121,6 +124,23 @@ pub extern "C" fn probe_sine_cosine(x: f64, sine: &mut f64, cosine: &mut f64) ->
     ensures cosine { λ n. ⌜ now (cosine .exit) ≡ cosineOver (Waves.paired (Waves.sineOf x) (Waves.cosineOf x)) (now (cosine .entry)) ⌝ }
 {
     match trig::sine_cosine(x) {
+        PairAnswer::Values(both) => {
+            *sine = both.sine;
+            *cosine = both.cosine;
+            0
+        }
+        PairAnswer::OutOfRange => refusal::TOO_LARGE,
+    }
+}
+
+// Both of an angle in degrees, by which a turn is made: 0 and both written, or 17 and both kept.
+#[no_mangle]
+pub extern "C" fn probe_turn(x: f64, sine: &mut f64, cosine: &mut f64) -> u32
+    ensures number { λ n. ⌜ n ≡ pairNumber (Degrees.degreePair x) ⌝ }
+    ensures sine { λ n. ⌜ now (sine .exit) ≡ sineOver (Degrees.degreePair x) (now (sine .entry)) ⌝ }
+    ensures cosine { λ n. ⌜ now (cosine .exit) ≡ cosineOver (Degrees.degreePair x) (now (cosine .entry)) ⌝ }
+{
+    match trig::of_degrees(x) {
         PairAnswer::Values(both) => {
             *sine = both.sine;
             *cosine = both.cosine;

@@ -1,4 +1,5 @@
--- The proofs. What other crates cite is in Laws, KernelLaws and Slope; the rest leads there.
+-- The proofs. What other crates cite is in Laws, KernelLaws, Slope, DegreeBack, DegreeSizes and DegreeWide; the rest
+-- leads there.
 -- Tests and tables.
 pub mod Choices
 pub mod Table
@@ -17,6 +18,17 @@ pub mod WaveError
 pub mod WaveSteps
 pub mod KernelLaws
 pub mod WaveLaws
+-- Sine and cosine of degrees: the error of the reduction, -0.0, the bound, turning back, right angles, and the sizes.
+pub mod DegreeError
+pub mod DegreeFloats
+pub mod DegreeZeros
+pub mod DegreeNear
+pub mod DegreeSteps
+pub mod DegreeBack
+pub mod DegreeRightAngles
+pub mod DegreeSizes
+pub mod DegreeWide
+pub mod DegreeLaws
 -- Arctangent: the angle on the grid, then by the eighths of the plane.
 pub mod ResidualBound
 pub mod GridAngle

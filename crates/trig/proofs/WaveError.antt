@@ -537,7 +537,7 @@ cosine-near x f h =
     (λ z. chosen (λ (y : Float). Near 50 y (cosine x)) (lt x plusZero) _ _ (λ l. below-cosine x (tame-below x f h l) f) (λ l. above-cosine x (tame-above x f h z l) f))
 
 -- ---- the size of both: at most 1 + 2 ^ -50
-sized-of : (y : Float) (N D : ℕ) → 0 < D → N ≤ D → Rounded y false (N * U) D (128 * W) → Sized y
+pub sized-of : (y : Float) (N D : ℕ) → 0 < D → N ≤ D → Rounded y false (N * U) D (128 * W) → Sized y
 sized-of nan N D P l r = absurd (r .is)
 sized-of (inf s) N D P l r = absurd (r .is)
 sized-of (fin s m e) N D P l r = le-of-mul-le-mul-right {k = U} (go (m * up e) (down e) (r .v) U W U-is (r .is .1) (mul-le-mul-right (down e) (t-le U (128 * W) N D (r .v) P l (r .near)))) U-pos
@@ -579,7 +579,7 @@ wave-sized j a h f =
     low : (n d : ℕ) → 100 * n ≤ 79 * d → n ≤ d
     low n d h = omega arith
 
-one-sized : Sized one
+pub one-sized : Sized one
 unfolding ofBits
 one-sized = lit≤ tt
 

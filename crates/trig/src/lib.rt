@@ -1,16 +1,21 @@
-// Sine, cosine, arctangent and arccosine of document 01. Each answers every argument, its contract names the answer and says what holds of it (specs/).
+// Sine, cosine, arctangent and arccosine of document 01, and the sine and cosine of degrees. Each answers every
+// argument, its contract names the answer and says what holds of it (specs/).
 ghost use mathlib.Core.Path.{_≡_};
 ghost use Rattle.trig.specs.Waves as Waves;
+ghost use Rattle.trig.specs.Degrees as Degrees;
 ghost use Rattle.trig.specs.Arctangent as Arctangent;
 ghost use Rattle.trig.specs.Arccosine as Arccosine;
 
 mod bearing;
+mod degrees;
 mod reduction;
 pub mod series;
 mod tangent;
 mod waves;
 
 use crate::bearing::angle;
+use crate::degrees::pair_in_degrees;
+use crate::degrees::turnable;
 use crate::waves::cosine_value;
 use crate::waves::pair_value;
 use crate::waves::sine_value;
@@ -64,6 +69,20 @@ pub fn sine_cosine(x: f64) -> PairAnswer
 {
     if served(x) {
         let p = pair_value(x);
+        PairAnswer::Values(p)
+    } else {
+        PairAnswer::OutOfRange
+    }
+}
+
+// The sine and the cosine of an angle in degrees, for |x| <= 45,000: exactly +0.0, 1 or -1 at multiples of 90. Turning
+// takes these; `sine_cosine` is for angles in radians.
+pub fn of_degrees(x: f64) -> PairAnswer
+    ensures name { λ a. ⌜ a ≡ Degrees.degreePair x ⌝ }
+    ensures right { λ a. ⌜ Degrees.TurnRight x a ⌝ }
+{
+    if turnable(x) {
+        let p = pair_in_degrees(x);
         PairAnswer::Values(p)
     } else {
         PairAnswer::OutOfRange

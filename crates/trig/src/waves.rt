@@ -18,7 +18,7 @@ pub fn served(x: f64) -> bool
 }
 
 // y, or -y.
-fn signed(y: f64, s: bool) -> f64
+pub fn signed(y: f64, s: bool) -> f64
     ensures { λ r. ⌜ r ≡ cond s (neg y) y ⌝ }
 {
     if s { -y } else { y }
@@ -50,7 +50,7 @@ fn wave(k: u64, below: bool, r: f64) -> f64
 }
 
 // That of k and of k + 1: the sine and the cosine.
-fn waves(k: u64, below: bool, r: f64) -> Pair
+pub fn waves(k: u64, below: bool, r: f64) -> Pair
     requires { ⌜ k ≤ 510 ⌝ }
     ensures { λ p. ⌜ (p .sine ≡ Waves.placed (k % 4) below (sineKernel r) (cosineKernel r)) × (p .cosine ≡ Waves.placed ((k + 1) % 4) below (sineKernel r) (cosineKernel r)) ⌝ }
 {

@@ -3,11 +3,8 @@ use Rattle.geometry.specs.Turn.{turnOf}
 use Rattle.geometry.proofs.Turn.of.Statement.{statement}
 use Rattle.geometry.proofs.Turn.of.Tie as tie
 
-to-radians-requires : tie.Need-to-radians-requires
-to-radians-requires c κs = search needs
-
-sine-cosine-requires : tie.Need-sine-cosine-requires
-sine-cosine-requires c κs = search needs
+of-degrees-requires : tie.Need-of-degrees-requires
+of-degrees-requires c κs = search needs
 
 enum-known-p : tie.Need-enum-known-p
 enum-known-p c = search needs
@@ -17,11 +14,11 @@ enum-told c = search needs
 
 returns : tie.Need-returns
 unfolding turnOf
-returns c = rw (simp (c .before .before .sine-cosine .ensures .0, c .before .before .before .to-radians .ensures) at (c .enum-told .given .1))
+returns c = rw (simp (c .before .before .of-degrees .ensures .0) at (c .enum-told .given .1))
 
 returns-2 : tie.Need-returns-2
 unfolding turnOf
-returns-2 c = rw (simp (c .before .before .before .sine-cosine .ensures .0, c .before .before .before .before .to-radians .ensures) at (c .before .p .given .1))
+returns-2 c = rw (simp (c .before .before .before .of-degrees .ensures .0) at (c .before .p .given .1))
 
 pub of-spec : {M : Type 1} → statement M
-of-spec = tie.close (tie.spec to-radians-requires sine-cosine-requires enum-known-p enum-told returns returns-2)
+of-spec = tie.close (tie.spec of-degrees-requires enum-known-p enum-told returns returns-2)

@@ -1,17 +1,9 @@
 use native.Mathlib.Omega.{arith}
 use borrow.Author.Needs.{needs}
-use lib.Dec.{T}
-use lib.Ieee.{binary64, fits}
 use Rattle.inverse.specs.Inverse.{takenIn, poseAt}
 use Rattle.inverse.proofs.FromTurns.{pose-from, joints-from}
 use Rattle.inverse.proofs.inverse_map.take_in.Statement.{statement}
 use Rattle.inverse.proofs.inverse_map.take_in.Tie as tie
-
-outer : (c : tie.Start) → T (fits binary64 (c .args .angles .a0))
-outer c = search needs
-
-inner : (c : tie.Start) → T (fits binary64 (c .args .angles .a1))
-inner c = search needs
 
 turns-of-requires : tie.Need-turns-of-requires
 turns-of-requires c κs = search needs
@@ -41,7 +33,7 @@ returns-2 c = (
     c .before .before .before .before .pose-from .ensures,
     c .before .before .before .before .before .turns-of .ensures,
     pose-from (c .before .before .before .before .before .before .args .p) (c .before .before .before .before .before .before .args .angles) (c .before .before .before .before .before .before .args .tool-length),
-    joints-from (c .before .before .before .before .before .before .args .p) (c .before .before .before .before .before .before .args .angles) (c .before .before .before .before .before .before .args .tip) (poseAt (c .before .before .before .before .before .before .args .p) (c .before .before .before .before .before .before .args .angles) (c .before .before .before .before .before .before .args .tool-length) .tip) (outer (c .before .before .before .before .before .before)) (inner (c .before .before .before .before .before .before)),
+    joints-from (c .before .before .before .before .before .before .args .p) (c .before .before .before .before .before .before .args .angles) (c .before .before .before .before .before .before .args .tip) (poseAt (c .before .before .before .before .before .before .args .p) (c .before .before .before .before .before .before .args .angles) (c .before .before .before .before .before .before .args .tool-length) .tip),
     rw (c .before .before .before .misses .ensures, c .before .before .before .before .pose-from .ensures, c .before .before .before .before .before .turns-of .ensures, pose-from (c .before .before .before .before .before .before .args .p) (c .before .before .before .before .before .before .args .angles) (c .before .before .before .before .before .before .args .tool-length)) at (c .before .before .if1 .left),
   ),
   rw (c .insert .ensures) (omega arith),

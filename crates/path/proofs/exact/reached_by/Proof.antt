@@ -1,18 +1,10 @@
 use borrow.Author.Needs.{needs}
-use lib.Dec.{T}
-use lib.Ieee.{binary64, fits}
 use Rattle.float.specs.Helpers.{nought}
 use Rattle.inverse.specs.Inverse.{poseAt}
 use Rattle.inverse.proofs.FromTurns.{pose-from, joints-from}
 use Rattle.path.specs.Exact.{reachedBy}
 use Rattle.path.proofs.exact.reached_by.Statement.{statement}
 use Rattle.path.proofs.exact.reached_by.Tie as tie
-
-outer : (c : tie.Start) → T (fits binary64 (c .args .angles .a0))
-outer c = search needs
-
-inner : (c : tie.Start) → T (fits binary64 (c .args .angles .a1))
-inner c = search needs
 
 turns-of-requires : tie.Need-turns-of-requires
 turns-of-requires c κs = search needs
@@ -38,7 +30,7 @@ returns-2 c =
       c .before .before .before .pose-from .ensures,
       c .before .before .before .before .turns-of .ensures,
       pose-from (c .before .before .before .before .before .args .p) (c .before .before .before .before .before .args .angles) nought,
-      joints-from (c .before .before .before .before .before .args .p) (c .before .before .before .before .before .args .angles) (c .before .before .before .before .before .args .tip) (poseAt (c .before .before .before .before .before .args .p) (c .before .before .before .before .before .args .angles) nought .tip) (outer (c .before .before .before .before .before)) (inner (c .before .before .before .before .before)),
+      joints-from (c .before .before .before .before .before .args .p) (c .before .before .before .before .before .args .angles) (c .before .before .before .before .before .args .tip) (poseAt (c .before .before .before .before .before .args .p) (c .before .before .before .before .before .args .angles) nought .tip),
       rw (c .before .before .misses .ensures, c .before .before .before .pose-from .ensures, c .before .before .before .before .turns-of .ensures, pose-from (c .before .before .before .before .before .args .p) (c .before .before .before .before .before .args .angles) nought) at (c .before .if1 .left),
     )
 
