@@ -12,8 +12,15 @@ const FILES: [&str; 4] = ["check", "geom", "kinematics", "rotary"];
 /// In `ported` these calls of kinematics.rs go to the exports. Those of rotary.rs stay: the port leaves their functions out.
 const CALLS: [&str; 4] = [".sin_cos(", ".sin(", ".acos(", ".atan2("];
 
-/// How many lines of kinematics.rs have such a call.
-const LINES_WITH_CALLS: usize = 9;
+/// In `ported` these two lines of `rotate_vector` become one call: turning takes its sine and cosine from the degrees.
+const TURN: &str = "    let theta = angle_deg.to_radians();
+    let (sin, cos) = theta.sin_cos();
+";
+const PORTED_TURN: &str = "    let (sin, cos) = angle_deg.ported_turn();
+";
+
+/// How many other lines of kinematics.rs have such a call.
+const LINES_WITH_CALLS: usize = 8;
 
 /// Stands behind the copies of rotary.rs, whose own text stays: limits that `RotaryLimits::new` would refuse. The Rust gets such
 /// limits from JSON, and `Kinematics::check` is what refuses them.
@@ -135,15 +142,19 @@ fn copy(name: &str, sources: &Path, out: &Path, change: fn(&str) -> String) {
     fs::write(folder.join("modules.rs"), modules).expect("OUT_DIR can be written");
 }
 
-/// `.sin(` becomes `.ported_sin(`, a method of a trait that is brought into scope at the end, and so on for each call.
+/// The turn's two lines become one, and then `.sin(` becomes `.ported_sin(`, and so on for each call: methods of a trait that is
+/// brought into scope at the end.
 fn ported(text: &str) -> String {
+    let turns = text.matches(TURN).count();
+    assert_eq!(turns, 1, "places of kinematics.rs that make a turn");
+    let text = text.replace(TURN, PORTED_TURN);
     let has_call = |line: &&str| CALLS.iter().any(|call| line.contains(call));
     let lines = text.lines().filter(has_call).count();
     assert_eq!(
         lines, LINES_WITH_CALLS,
         "lines of kinematics.rs with calls to port"
     );
-    let text = CALLS.iter().fold(text.to_owned(), |text, call| {
+    let text = CALLS.iter().fold(text, |text, call| {
         text.replace(call, &call.replacen('.', ".ported_", 1))
     });
     text + "\nuse crate::Ported as _;\n"

@@ -4,8 +4,9 @@ use crate::floats::{self, PAIRED, power_of_two, subnormal};
 use crate::random::Random;
 use std::f64::consts::{FRAC_PI_4, PI};
 
-/// The largest angle that is served.
+/// The largest angle that is served: in radians, and in degrees for a turn.
 pub const MOST: f64 = 800.0;
+pub const MOST_DEGREES: f64 = 45_000.0;
 
 /// An angle, or a double that is refused as one.
 pub fn angle(random: &mut Random) -> f64 {
@@ -34,6 +35,27 @@ pub fn served_angle(random: &mut Random) -> f64 {
 fn near_eighth_turn(random: &mut Random) -> f64 {
     let k = (1 + random.below(1018)) as f64;
     signed(moved(k * FRAC_PI_4, 8, random).clamp(0.0, MOST), random)
+}
+
+/// An angle in degrees, or a double that no turn is made by.
+pub fn degrees(random: &mut Random) -> f64 {
+    match random.below(8) {
+        0 => moved(signed(MOST_DEGREES, random), 64, random),
+        1 => floats::any(random),
+        2 => near_eighth_turn_in_degrees(random),
+        3 => power_of_two(random.below(1037) as i64 - 1022).min(MOST_DEGREES) * within(1.0, random),
+        4 => subnormal(random),
+        5 => (random.below(180_001) as f64 - 90_000.0) / 2.0,
+        6 => within(360.0, random),
+        _ => within(MOST_DEGREES, random),
+    }
+}
+
+/// At most 8 places from a multiple of 45 degrees, half of the time that itself.
+fn near_eighth_turn_in_degrees(random: &mut Random) -> f64 {
+    let x = 45.0 * random.below(1001) as f64;
+    let places = 8 * random.below(2);
+    signed(moved(x, places.min(x.to_bits()), random), random)
 }
 
 /// y and x for the arctangent.

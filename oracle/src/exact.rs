@@ -2,7 +2,8 @@
 //!
 //! How far they are from the rationals S and C, in units of 2^-192: a double is exact here down to one unit; Pi / 2 and each 1 / n!
 //! are cut off by less than 2; k is at most 510, so the rest x - k Pi / 2 is off by less than 1,021; each of at most 13 steps of a
-//! sum adds less than 5; and the slope of a sum is at most 1. So S and C are off by less than 2^-180.
+//! sum adds less than 5; and the slope of a sum is at most 1. So S and C are off by less than 2^-180. Of an angle in degrees the
+//! rest is a product of at most 45 with Pi / 180, which is cut off by less than 2: it is off by less than 92.
 
 use std::cmp::Ordering;
 use std::ops::{Add, Mul, Neg, Sub};
@@ -211,6 +212,8 @@ const LAST: usize = 25;
 pub struct Sums {
     half_pi: Size,
     quarter_pi: Size,
+    /// Pi / 180
+    degree: Size,
     /// 1 / n!
     reciprocals: [Size; LAST + 1],
 }
@@ -227,6 +230,7 @@ impl Default for Sums {
         Sums {
             half_pi: pi.over(2),
             quarter_pi: pi.over(4),
+            degree: pi.over(180),
             reciprocals,
         }
     }
@@ -236,6 +240,24 @@ impl Sums {
     /// S and C at a double of at most 800 in size.
     pub fn at(&self, x: f64) -> (Exact, Exact) {
         let (k, rest) = self.rest(x.abs());
+        self.around(k, rest, x.is_sign_negative())
+    }
+
+    /// S and C at an angle of that many degrees: at what is left of it by the exact remainder by 360 times Pi over 180.
+    pub fn at_degrees(&self, x: f64) -> (Exact, Exact) {
+        let left = x.abs() % 360.0;
+        let halves = [45.0, 135.0, 225.0, 315.0];
+        let k = halves.into_iter().filter(|half| *half <= left).count() as u64;
+        let degree = Exact {
+            below: false,
+            size: self.degree,
+        };
+        let rest = (Exact::of(left) - Exact::of(90.0 * k as f64)) * degree;
+        self.around(k, rest, x.is_sign_negative())
+    }
+
+    /// S and C at k Pi / 2 and the rest, or at that below 0.
+    fn around(&self, k: u64, rest: Exact, below: bool) -> (Exact, Exact) {
         let square = rest.size.times(rest.size);
         let sine = Exact {
             below: rest.below,
@@ -251,7 +273,7 @@ impl Sums {
             2 => (-sine, -cosine),
             _ => (-cosine, sine),
         };
-        (if x.is_sign_negative() { -s } else { s }, c)
+        (if below { -s } else { s }, c)
     }
 
     /// The k nearest to x over half of Pi, and the rest. No double is halfway: Pi times an odd number over 4 is none.
@@ -374,14 +396,110 @@ mod tests {
         ),
     ];
 
+    /// The same for degrees.
+    const DEGREES_BY_FRACTIONS: [(f64, Exact, Exact); 4] = [
+        (
+            30.0,
+            Exact {
+                below: false,
+                size: Size([
+                    0x7BB4_98C8_190D_CF40,
+                    0x0000_0000_0000_0328,
+                    0x8000_0000_0000_0000,
+                    0,
+                ]),
+            },
+            Exact {
+                below: false,
+                size: Size([
+                    0x1E3F_9737_A5B2_0959,
+                    0x92BA_16B8_3C5C_C09E,
+                    0xDDB3_D742_C265_539D,
+                    0,
+                ]),
+            },
+        ),
+        (
+            -45.0,
+            Exact {
+                below: true,
+                size: Size([
+                    0xF8D7_1DC8_BB9B_4E07,
+                    0x597D_89B3_D35E_7102,
+                    0xB504_F333_F9DE_6484,
+                    0,
+                ]),
+            },
+            Exact {
+                below: false,
+                size: Size([
+                    0x3715_83A0_10E1_1D31,
+                    0x597D_89B3_7807_59B1,
+                    0xB504_F333_F9DE_6484,
+                    0,
+                ]),
+            },
+        ),
+        (
+            44999.9,
+            Exact {
+                below: true,
+                size: Size([
+                    0xAD23_5C18_C832_1183,
+                    0xDC0A_B44C_EB5D_62F7,
+                    0x0072_61C0_4090_8660,
+                    0,
+                ]),
+            },
+            Exact {
+                below: false,
+                size: Size([
+                    0x11F3_7B98_2BE8_0486,
+                    0xD40D_BA7B_EA74_B16C,
+                    0xFFFF_E672_6473_23A1,
+                    0,
+                ]),
+            },
+        ),
+        (
+            -1234.5,
+            Exact {
+                below: true,
+                size: Size([
+                    0x6D5E_603E_254E_FDF2,
+                    0x339F_7B2F_7876_5C7E,
+                    0x6E35_F9A9_5B51_D8AC,
+                    0,
+                ]),
+            },
+            Exact {
+                below: true,
+                size: Size([
+                    0x464B_B614_A672_FCF2,
+                    0x4365_BE34_7105_1F27,
+                    0xE70F_D446_222D_D675,
+                    0,
+                ]),
+            },
+        ),
+    ];
+
+    type Sum = fn(&Sums, f64) -> (Exact, Exact);
+
     #[test]
     fn sums_are_the_fractions() {
         let sums = Sums::default();
         let bound = Size([1 << 12, 0, 0, 0]);
-        for (x, by_fractions_s, by_fractions_c) in BY_FRACTIONS {
-            let (s, c) = sums.at(x);
-            for gap in [s - by_fractions_s, c - by_fractions_c] {
-                assert_eq!(gap.size.compare(bound), Ordering::Less, "at {x}");
+        let tables: [(Sum, _); 2] = [
+            (Sums::at, BY_FRACTIONS),
+            (Sums::at_degrees, DEGREES_BY_FRACTIONS),
+        ];
+        for (sum, table) in tables {
+            for (x, by_fractions_s, by_fractions_c) in table {
+                let (s, c) = sum(&sums, x);
+                for gap in [s - by_fractions_s, c - by_fractions_c] {
+                    assert_eq!(gap.size.compare(bound), Ordering::Less, "at {x}");
+                }
             }
         }
     }

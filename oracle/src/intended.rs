@@ -171,6 +171,38 @@ fn frames() {
     assert_eq!(frame(0.0, only(4, f64::NAN)), rust_alone(16));
 }
 
+/// A table C at 90 degrees turns X exactly into Y, and at 180 into -X.
+#[test]
+fn right_angles() {
+    let mut chain = head(0.0);
+    chain.rotaries[0].carrier = 0;
+    let axis_x = |degrees: f64| {
+        let joints: [f64; JOINTS] = only(3, degrees);
+        let case = Case {
+            name: b"n".to_vec(),
+            chain: chain.bytes(),
+            joints: joints.to_vec(),
+            carrier: b"table".to_vec(),
+            room: FRAME,
+            ..Case::default()
+        };
+        let rust = untouched::kinematics(&bare(&chain));
+        let rust = untouched::link_world(&rust, &joints, "table").expect("a frame");
+        let told = calls::ask(Entry::LinkWorld, &case);
+        assert_eq!(told.number, 0);
+        let frame = &told.numbers[calls::GUARD..][..FRAME];
+        (rust[3..6].to_vec(), frame[3..6].to_vec())
+    };
+    let bits = |axis: [f64; 3]| axis.map(f64::to_bits).to_vec();
+    let quarter = (vec![6.123233995736766e-17, 1.0, 0.0], bits([0.0, 1.0, 0.0]));
+    assert_eq!(axis_x(90.0), quarter);
+    let half = (
+        vec![-1.0, 1.2246467991473532e-16, 0.0],
+        bits([-1.0, 0.0, 0.0]),
+    );
+    assert_eq!(axis_x(180.0), half);
+}
+
 #[test]
 fn inverses() {
     let rest = [0.0; 2];

@@ -1,8 +1,9 @@
 //! The Rust that is compared, built as it stands twice: `untouched`, and `ported`, in which the calls of `sin_cos`, `sin`,
-//! `acos` and `atan2` in kinematics.rs go to the exports and nothing else changes. The build script writes both, and puts behind
+//! `acos` and `atan2` in kinematics.rs go to the exports, `rotate_vector` takes the pair of its degrees from the port, and nothing
+//! else changes. The build script writes both, and puts behind
 //! each a constructor of limits that are not checked.
 
-use crate::maztubel;
+use crate::{maztubel, probe};
 use std::fmt;
 
 /// What the files take from the crate's root.
@@ -39,6 +40,8 @@ pub mod ported {
 pub trait Ported {
     fn ported_sin(self) -> f64;
     fn ported_sin_cos(self) -> (f64, f64);
+    /// The sine and the cosine of an angle in degrees.
+    fn ported_turn(self) -> (f64, f64);
     fn ported_acos(self) -> f64;
     fn ported_atan2(self, x: f64) -> f64;
 }
@@ -51,6 +54,12 @@ impl Ported for f64 {
     fn ported_sin_cos(self) -> (f64, f64) {
         let cosine = maztubel::cosine(self).unwrap_or(f64::NAN);
         (self.ported_sin(), cosine)
+    }
+
+    fn ported_turn(self) -> (f64, f64) {
+        let [mut sine, mut cosine] = [f64::NAN; 2];
+        probe::turn(self, &mut sine, &mut cosine);
+        (sine, cosine)
     }
 
     fn ported_acos(self) -> f64 {

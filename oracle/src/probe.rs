@@ -1,4 +1,5 @@
-//! The exports of the crate `probe`: what was proved of `float`, `root` and the pair of waves of `trig`, under Rust's names.
+//! The exports of the crate `probe`: what was proved of `float`, `root` and the two pairs of sine and cosine of `trig`, under
+//! Rust's names.
 
 use std::cmp::Ordering;
 
@@ -27,6 +28,8 @@ unsafe extern "C" {
     pub safe fn maximum(x: f64, y: f64) -> f64;
     #[link_name = "probe_sine_cosine"]
     pub safe fn sine_cosine(x: f64, sine: &mut f64, cosine: &mut f64) -> u32;
+    #[link_name = "probe_turn"]
+    pub safe fn turn(degrees: f64, sine: &mut f64, cosine: &mut f64) -> u32;
     safe fn probe_total_cmp(x: f64, y: f64) -> u32;
     fn probe_roots(xs: *const f64, count: usize, answers: *mut f64, room: usize);
     fn probe_forwards(

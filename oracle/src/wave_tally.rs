@@ -181,15 +181,17 @@ impl Tally {
     }
 }
 
-/// Sine and cosine from one reduction, which the probe exports.
+/// What the probe alone exports: sine and cosine from one reduction, and those of an angle in degrees.
 const BOTH: &str = "both in one call";
+const TURNS: [&str; 2] = ["sine of degrees", "cosine of degrees"];
 
-/// Of each function, of both in one call, and of the slice forms, in the order of `waves::FORMS`.
+/// Of each function, of both in one call, of both of degrees, and of the slice forms, in the order of `waves::FORMS`.
 #[derive(Default)]
 pub struct Waves {
     pub(crate) sine: Tally,
     pub(crate) cosine: Tally,
     pub(crate) both: Tally,
+    pub(crate) turns: [Tally; 2],
     pub(crate) arctangent: Tally,
     pub(crate) arccosine: Tally,
     pub(crate) slices: [Tally; 3],
@@ -201,6 +203,9 @@ impl Outcome for Waves {
         self.sine.add(more.sine);
         self.cosine.add(more.cosine);
         self.both.add(more.both);
+        for (turns, more) in self.turns.iter_mut().zip(more.turns) {
+            turns.add(more);
+        }
         self.arctangent.add(more.arctangent);
         self.arccosine.add(more.arccosine);
         for (slices, more) in self.slices.iter_mut().zip(more.slices) {
@@ -212,12 +217,15 @@ impl Outcome for Waves {
 
 impl Waves {
     /// Each with its name, and that of what its answers are a distance from.
-    fn each(&self) -> [(&'static str, &'static str, &Tally); 9] {
+    fn each(&self) -> [(&'static str, &'static str, &Tally); 11] {
+        let [of_sine, of_cosine] = &self.turns;
         let [sines, cosines, arccosines] = &self.slices;
         [
             ("sine", "from S", &self.sine),
             ("cosine", "from C", &self.cosine),
             (BOTH, "", &self.both),
+            (TURNS[0], "from S", of_sine),
+            (TURNS[1], "from C", of_cosine),
             ("arctangent", "residual", &self.arctangent),
             ("arccosine", "", &self.arccosine),
             ("sines", "", sines),
@@ -239,9 +247,10 @@ impl Waves {
 }
 
 impl Account for Waves {
-    /// But for both in one call, which is no entry.
+    /// But for what the probe exports, which is no entry.
     fn calls(&self) -> Vec<(&'static str, u64)> {
-        let entries = self.each().into_iter().filter(|(name, ..)| *name != BOTH);
+        let is_entry = |name| name != BOTH && !TURNS.contains(&name);
+        let entries = self.each().into_iter().filter(|(name, ..)| is_entry(*name));
         entries
             .map(|(name, _, tally)| (name, tally.served + tally.refused))
             .collect()

@@ -1,7 +1,7 @@
 //! The exported sine, cosine, arctangent and arccosine on random arguments, held to document 01's S and C, and to the machine's libm;
-//! and their slice forms, held to the single ones.
+//! their slice forms, held to the single ones; and the pair of an angle in degrees, by which a turn is made.
 
-use crate::angles::{self, MOST};
+use crate::angles::{self, MOST, MOST_DEGREES};
 use crate::exact::{Exact, Sums};
 use crate::maztubel::{self, OfEach, OfOne};
 use crate::probe;
@@ -12,10 +12,14 @@ use std::f64::consts::PI;
 const LENGTHS_DIFFER: u32 = 20;
 
 impl Waves {
-    /// So many angles, a fifth as many points, a fifth as many cosines, and a slice of each form for 500 angles.
+    /// So many angles, half as many in degrees, a fifth as many points, a fifth as many cosines, and a slice of each form for 500
+    /// angles.
     pub fn compare_drawn(&mut self, angles: u64, sums: &Sums, random: &mut Random) {
         for _ in 0..angles {
             compare_angle(self, sums, angles::angle(random));
+        }
+        for _ in 0..angles / 2 {
+            compare_turn(&mut self.turns, sums, angles::degrees(random));
         }
         for _ in 0..angles / 5 {
             let (y, x) = angles::point(random);
@@ -29,6 +33,20 @@ impl Waves {
                 compare_form(tally, form, random);
             }
             compare_arctangents(&mut self.arctangents, random);
+        }
+    }
+
+    /// Every multiple of 45 degrees up to 45,000, above and below zero, with eight doubles on either side.
+    pub fn compare_eighth_turns(&mut self, sums: &Sums) {
+        for n in -1000..=1000 {
+            let x = 45.0 * f64::from(n);
+            compare_turn(&mut self.turns, sums, x);
+            let (mut above, mut below) = (x, x);
+            for _ in 0..8 {
+                (above, below) = (above.next_up(), below.next_down());
+                compare_turn(&mut self.turns, sums, above);
+                compare_turn(&mut self.turns, sums, below);
+            }
         }
     }
 }
@@ -99,6 +117,53 @@ fn compare_both(tally: &mut Tally, x: f64, sine: Told, cosine: Told) {
     } else {
         tally.refused += 1;
     }
+}
+
+/// The sine and the cosine of an angle in degrees.
+fn ask_turn(x: f64) -> [Told; 2] {
+    let [mut sine, mut cosine] = [f64::from_bits(LENT); 2];
+    let number = probe::turn(x, &mut sine, &mut cosine);
+    [sine, cosine].map(|lent| Told {
+        number,
+        bits: lent.to_bits(),
+    })
+}
+
+fn compare_turn(tallies: &mut [Tally; 2], sums: &Sums, x: f64) {
+    let told = ask_turn(x);
+    if !(-MOST_DEGREES..=MOST_DEGREES).contains(&x) {
+        for (tally, told) in tallies.iter_mut().zip(told) {
+            tally.refusal(&[x], told);
+        }
+        return;
+    }
+    let (s, c) = sums.at_degrees(x);
+    let (libms_s, libms_c) = x.to_radians().sin_cos();
+    let back = ask_turn(-x);
+    let [sine, cosine] = tallies;
+    let tiny = if x.abs() < 45.0 { x.to_radians() } else { 0.0 };
+    compare_turned(sine, x, told[0], s, libms_s, tiny);
+    compare_turned(cosine, x, told[1], c, libms_c, 0.0);
+    let negated = served(0.0 - f64::from_bits(told[0].bits));
+    sine.holds(back[0] == negated, "negated for -x", &[x], back[0]);
+    cosine.holds(back[1] == told[1], "even in every bit", &[x], back[1]);
+    if x % 90.0 == 0.0 {
+        let quarters = ((x / 90.0) as i64).rem_euclid(4) as usize;
+        let exactly = [[0.0, 1.0], [1.0, 0.0], [0.0, -1.0], [-1.0, 0.0]][quarters];
+        let words = "exactly +0.0, 1 or -1";
+        sine.holds(told[0] == served(exactly[0]), words, &[x], told[0]);
+        cosine.holds(told[1] == served(exactly[1]), words, &[x], told[1]);
+    }
+}
+
+/// `tiny` is what the sum is where it is too small for 192 digits: from 45 degrees on it is that only at a zero.
+fn compare_turned(tally: &mut Tally, x: f64, told: Told, sum: Exact, libms: f64, tiny: f64) {
+    let Some(answer) = tally.answer(&[x], told) else {
+        return;
+    };
+    tally.holds(told != served(-0.0), "no -0.0", &[x], told);
+    tally.near_sum(x, answer, sum, tiny);
+    tally.from_libm.see(&[x], answer - libms, libms);
 }
 
 fn compare_arctangent(tally: &mut Tally, sums: &Sums, y: f64, x: f64) {

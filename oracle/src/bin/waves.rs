@@ -2,7 +2,8 @@
 //!
 //!     waves [SEED] [MILLIONS]
 //!
-//! on MILLIONS (20) million angles, a fifth as many points, a fifth as many cosines, and slices of each. Prints the largest
+//! on MILLIONS (20) million angles, a fifth as many points, a fifth as many cosines, and slices of each; and the pair by which a
+//! turn is made on half as many angles in degrees, and on every multiple of 45 degrees with its neighbours. Prints the largest
 //! differences, and ends with status 1 where a promise is broken.
 
 use oracle::exact::Sums;
@@ -20,5 +21,7 @@ fn main() -> ExitCode {
     println!("seed {seed}, {parts} million angles");
     let sums = Sums::default();
     let work = |waves: &mut Waves, random: &mut Random| waves.compare_drawn(ANGLES, &sums, random);
-    compared(seed, parts, work).print()
+    let mut waves: Waves = compared(seed, parts, work);
+    waves.compare_eighth_turns(&sums);
+    waves.print()
 }
