@@ -12,13 +12,13 @@ use std::f64::consts::PI;
 const LENGTHS_DIFFER: u32 = 20;
 
 impl Waves {
-    /// So many angles, half as many in degrees, a fifth as many points, a fifth as many cosines, and a slice of each form for 500
-    /// angles.
+    /// So many angles, three fifths as many in degrees, a fifth as many points and as many cosines, and a slice of each form for
+    /// 500 angles.
     pub fn compare_drawn(&mut self, angles: u64, sums: &Sums, random: &mut Random) {
         for _ in 0..angles {
             compare_angle(self, sums, angles::angle(random));
         }
-        for _ in 0..angles / 2 {
+        for _ in 0..angles / 5 * 3 {
             compare_turn(&mut self.turns, sums, angles::degrees(random));
         }
         for _ in 0..angles / 5 {

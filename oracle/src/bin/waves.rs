@@ -3,8 +3,8 @@
 //!     waves [SEED] [MILLIONS]
 //!
 //! on MILLIONS (20) million angles, a fifth as many points, a fifth as many cosines, and slices of each; and the pair by which a
-//! turn is made on half as many angles in degrees, and on every multiple of 45 degrees with its neighbours. Prints the largest
-//! differences, and ends with status 1 where a promise is broken.
+//! turn is made on three fifths as many angles in degrees, and on every multiple of 45 degrees with its neighbours. Prints the
+//! largest differences, and ends with status 1 where a promise is broken.
 
 use oracle::exact::Sums;
 use oracle::parts::{argument, compared};
