@@ -34,6 +34,13 @@ extern "C" fn libm_sine_cosine(x: f64, sine: &mut f64, cosine: &mut f64) -> u32 
     0
 }
 
+/// What the untouched Rust turns by.
+#[inline(never)]
+extern "C" fn libm_turn(degrees: f64, sine: &mut f64, cosine: &mut f64) -> u32 {
+    (*sine, *cosine) = degrees.to_radians().sin_cos();
+    0
+}
+
 #[inline(never)]
 extern "C" fn libm_arctangent(y: f64, x: f64, answer: &mut f64) -> u32 {
     *answer = y.atan2(x);
@@ -77,6 +84,34 @@ const OF_ONE: [Function; 3] = [
     ),
 ];
 
+/// A pair of sine and cosine: its name, the port's and libm's, the size of the arguments with its words, and what is asked.
+type Pair = (&'static str, [OfPair; 2], f64, &'static str, &'static str);
+
+const FROM_RADIANS: (&str, [OfPair; 2]) = (
+    "sine and cosine from one reduction",
+    [probe::sine_cosine, libm_sine_cosine],
+);
+const FROM_DEGREES: (&str, [OfPair; 2]) = ("sine and cosine of degrees", [probe::turn, libm_turn]);
+
+const OF_PAIR: [Pair; 4] = [
+    (FROM_RADIANS.0, FROM_RADIANS.1, PI, "within pi", "at most 4"),
+    (
+        FROM_RADIANS.0,
+        FROM_RADIANS.1,
+        MOST,
+        "within 800",
+        "at most 4",
+    ),
+    (FROM_DEGREES.0, FROM_DEGREES.1, 360.0, "within 360", ""),
+    (
+        FROM_DEGREES.0,
+        FROM_DEGREES.1,
+        36_000.0,
+        "within 36,000",
+        "",
+    ),
+];
+
 pub fn section() -> Section {
     let mut rows = functions(CALLS, COUNT, &mut Random::new(2))
         .map(Row::chief)
@@ -113,7 +148,7 @@ fn functions(calls: usize, count: usize, random: &mut Random) -> [Row; 4] {
     [sine, cosine, arctangent, arccosine]
 }
 
-/// Of larger angles, and the pair.
+/// Of larger angles, and the pairs.
 fn others(random: &mut Random) -> Vec<Row> {
     let row = |entry, words, port, libm| Row::new(entry, words, COUNT, port, libm);
     let large = drawn(COUNT, MOST, random);
@@ -123,17 +158,15 @@ fn others(random: &mut Random) -> Vec<Row> {
         row(name, "within 800", port, libm).asked(asked)
     });
     let mut rows: Vec<Row> = of_large.collect();
-    for (most, words) in [(PI, "within pi"), (MOST, "within 800")] {
+    for (entry, both, most, words, asked) in OF_PAIR {
         let angles = drawn(COUNT, most, random);
-        let both: [OfPair; 2] = [probe::sine_cosine, libm_sine_cosine];
         let [port, libm] = black_box(both).map(|function| {
             lent(&angles, move |x, (sine, cosine): &mut (f64, f64)| {
                 function(x, sine, cosine)
             })
         });
         let [port, libm] = of_both(CALLS, COUNT, port, libm);
-        let pair = row("sine and cosine from one reduction", words, port, libm);
-        rows.push(pair.asked("at most 4"));
+        rows.push(row(entry, words, port, libm).asked(asked));
     }
     rows
 }
