@@ -2,7 +2,8 @@
 use mathlib.Core.Path.{_≡_}
 use mathlib.Core.Bool.{true}
 use lib.Ieee.{Float, neg, le}
-use Rattle.trig.specs.Degrees.{turnable, widest, sineDegrees, cosineDegrees, degreePair}
+use Rattle.trig.specs.Degrees.{turnable, widest}
+use Rattle.trig.specs.DegreeSteps.{sineDegrees, cosineDegrees, degreePair}
 use Rattle.geometry.specs.Turn.{turnOf}
 
 pub within-turnable : (x : Float) → le (neg widest) x ≡ true → le x widest ≡ true → turnable x ≡ true

@@ -4,7 +4,8 @@ use mathlib.Core.Path.{_≡_, refl}
 use lib.Ieee.{Float, binary64, add, sub, mul, neg, ofBits, ofInt, toUnsigned, le, lt, eq, round}
 use Rattle.float.specs.Helpers.{nought, one, toRadians}
 use Rattle.trig.specs.Kernel.{sineKernel, cosineKernel, sum, step, reciprocal}
-use Rattle.trig.specs.Degrees.{degreePair, turnable, sineDegrees, cosineDegrees, degreeFloat, degreeK, degreeBelow, degreeRest, quarterTurns, radiansOf}
+use Rattle.trig.specs.Degrees.{turnable}
+use Rattle.trig.specs.DegreeSteps.{degreePair, sineDegrees, cosineDegrees, degreeFloat, degreeK, degreeBelow, degreeRest, quarterTurns, radiansOf}
 use Rattle.geometry.specs.Vector.{vector, cross, dot, scale}
 use Rattle.geometry.specs.Vector as G
 use Rattle.geometry.specs.declared.Vec3.{Vec3}

@@ -13,7 +13,7 @@ use lib.Ieee.Fits.{down-pos}
 use Rattle.float.specs.Units.{U}
 use Rattle.float.specs.Helpers.{nought, one}
 use Rattle.float.proofs.Units.{Held, held}
-use Rattle.trig.specs.Degrees.{degreePair}
+use Rattle.trig.specs.DegreeSteps.{degreePair}
 use Rattle.trig.specs.declared.PairAnswer.{PairAnswer}
 use Rattle.trig.specs.declared.PairAnswer.the-variants.{Values, OutOfRange}
 use Rattle.trig.proofs.DegreeSizes.{Tidy, TidyPair, pair-tidy, nought-tidy, one-tidy}

@@ -5,7 +5,8 @@ use lib.Ieee.{Float, binary64, add, sub, neg, ofBits}
 use Rattle.float.specs.Helpers.{nought}
 use Rattle.float.proofs.Order.{neg-neg}
 use Rattle.float.proofs.Commute.{add-commutes}
-use Rattle.trig.specs.Degrees.{degreePair, plain, opposite}
+use Rattle.trig.specs.Degrees.{plain, opposite}
+use Rattle.trig.specs.DegreeSteps.{degreePair}
 use Rattle.trig.specs.declared.PairAnswer.{PairAnswer}
 use Rattle.trig.specs.declared.PairAnswer.the-variants.{Values, OutOfRange}
 use Rattle.trig.proofs.DegreeBack.{pair-back}

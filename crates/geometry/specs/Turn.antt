@@ -1,7 +1,7 @@
 -- Turning: Rodrigues' formula, (v cos + (axis × v) sin) + axis ((axis · v) (1 - cos)), for a unit axis.
 use lib.Ieee.{Float}
 use Rattle.float.specs.Helpers.{nought, one}
-use Rattle.trig.specs.Degrees.{degreePair}
+use Rattle.trig.specs.DegreeSteps.{degreePair}
 use Rattle.trig.specs.declared.PairAnswer.{PairAnswer}
 use Rattle.trig.specs.declared.PairAnswer.the-variants.{Values, OutOfRange}
 use Rattle.geometry.specs.Vector.{add, sub, scale, dot, cross, times, minus}

@@ -10,7 +10,7 @@ ghost use Rattle.float.specs.Helpers as S;
 ghost use Rattle.float.specs.TotalOrder as Total;
 ghost use Rattle.root.specs.Root as Root;
 ghost use Rattle.trig.specs.Waves as Waves;
-ghost use Rattle.trig.specs.Degrees as Degrees;
+ghost use Rattle.trig.specs.DegreeSteps as DegreeSteps;
 ghost use Rattle.probe.specs.Answers.{number, rootsOver, pairNumber, sineOver, cosineOver};
 use float::Comparison;
 use trig::PairAnswer;
@@ -136,9 +136,9 @@ pub extern "C" fn probe_sine_cosine(x: f64, sine: &mut f64, cosine: &mut f64) ->
 // Both of an angle in degrees, by which a turn is made: 0 and both written, or 17 and both kept.
 #[no_mangle]
 pub extern "C" fn probe_turn(x: f64, sine: &mut f64, cosine: &mut f64) -> u32
-    ensures number { λ n. ⌜ n ≡ pairNumber (Degrees.degreePair x) ⌝ }
-    ensures sine { λ n. ⌜ now (sine .exit) ≡ sineOver (Degrees.degreePair x) (now (sine .entry)) ⌝ }
-    ensures cosine { λ n. ⌜ now (cosine .exit) ≡ cosineOver (Degrees.degreePair x) (now (cosine .entry)) ⌝ }
+    ensures number { λ n. ⌜ n ≡ pairNumber (DegreeSteps.degreePair x) ⌝ }
+    ensures sine { λ n. ⌜ now (sine .exit) ≡ sineOver (DegreeSteps.degreePair x) (now (sine .entry)) ⌝ }
+    ensures cosine { λ n. ⌜ now (cosine .exit) ≡ cosineOver (DegreeSteps.degreePair x) (now (cosine .entry)) ⌝ }
 {
     match trig::of_degrees(x) {
         PairAnswer::Values(both) => {

@@ -12,7 +12,8 @@ use Rattle.trig.specs.Fraction.{negated}
 use Rattle.trig.specs.Kernel.{plusZero, one}
 use Rattle.trig.specs.declared.PairAnswer.{PairAnswer}
 use Rattle.trig.specs.declared.PairAnswer.the-variants.{Values, OutOfRange}
-use Rattle.trig.specs.Degrees.{degreeFloat, plain, sineDegrees, cosineDegrees, turnable, widest, degreePair, opposite}
+use Rattle.trig.specs.Degrees.{plain, turnable, widest, opposite}
+use Rattle.trig.specs.DegreeSteps.{degreeFloat, sineDegrees, cosineDegrees, degreePair}
 use Rattle.trig.proofs.Choices.{split, pick, drop}
 use Rattle.trig.proofs.WaveSteps.{lt-pos, lt-neg, swap}
 use Rattle.trig.proofs.DegreeZeros.{degree-fits, plain-back}

@@ -16,7 +16,8 @@ use Rattle.trig.specs.Taylor.{sinSum, cosSum}
 use Rattle.trig.specs.Angle.{piNum, piDen, nearestK, under, gap, place, wave}
 use Rattle.trig.specs.Kernel.{one, sineKernel, cosineKernel}
 use Rattle.trig.specs.Waves.{placed}
-use Rattle.trig.specs.Degrees.{degreeWave, quarterTurns, quarterTurn, eighthTurn}
+use Rattle.trig.specs.Degrees.{degreeWave}
+use Rattle.trig.specs.DegreeSteps.{quarterTurns, quarterTurn, eighthTurn}
 use Rattle.trig.proofs.NearestTurn.{piDen-pos, piNum-pos, pi-small, Side, side-is}
 use Rattle.trig.proofs.WaveError.{sin-right, cos-right, put-near}
 

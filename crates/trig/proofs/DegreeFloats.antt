@@ -19,7 +19,8 @@ use Rattle.float.proofs.Rounding.{U-pos, mul-is}
 use Rattle.trig.specs.Fraction.{Near}
 use Rattle.trig.specs.Kernel.{one, sineKernel, cosineKernel}
 use Rattle.trig.specs.Waves.{placed}
-use Rattle.trig.specs.Degrees.{degreeWave, quarterTurns, quarterTurn, eighthTurn, inUnits, fortyFive, radiansOf, beside, degreeK, degreeBelow, degreeRest, degreeFloat, UpToWidest}
+use Rattle.trig.specs.Degrees.{degreeWave}
+use Rattle.trig.specs.DegreeSteps.{quarterTurns, quarterTurn, eighthTurn, inUnits, fortyFive, radiansOf, beside, degreeK, degreeBelow, degreeRest, degreeFloat, UpToWidest}
 use Rattle.trig.proofs.Choices.{not-true, is-true}
 use Rattle.trig.proofs.SumError.{int-is}
 use Rattle.trig.proofs.Scaling.{whole-is, digits-fit, units-of}

@@ -8,7 +8,8 @@ use lib.Ieee.Fits.{neg-fits, cond-fits}
 use Rattle.trig.specs.Kernel.{plusZero}
 use Rattle.trig.specs.declared.Pair.{Pair}
 use Rattle.trig.specs.declared.PairAnswer.the-variants.{Values, OutOfRange}
-use Rattle.trig.specs.Degrees.{sineDegrees, cosineDegrees, turnable, degreePair, DegreesRight, TurnRight}
+use Rattle.trig.specs.Degrees.{turnable, DegreesRight, TurnRight}
+use Rattle.trig.specs.DegreeSteps.{sineDegrees, cosineDegrees, degreePair}
 use Rattle.trig.proofs.Choices.{pick, drop, chosen}
 use Rattle.trig.proofs.DegreeZeros.{degree-fits, plain-sign, nought-sign, one-sign}
 use Rattle.trig.proofs.DegreeNear.{sine-right, cosine-right}

@@ -12,7 +12,8 @@ use lib.Ieee.Positive.{num as top, den as bot}
 use Rattle.float.specs.Helpers.{toRadians}
 use Rattle.trig.specs.Fraction.{Frac, negated, Near}
 use Rattle.trig.specs.Kernel.{plusZero, one, sineKernel, cosineKernel}
-use Rattle.trig.specs.Degrees.{degreeWave, sineAt, cosineAt, degreeK, degreeBelow, degreeRest, degreeFloat, sineDegrees, cosineDegrees, turnable, widest, UpToWidest}
+use Rattle.trig.specs.Degrees.{degreeWave, sineAt, cosineAt, turnable, widest}
+use Rattle.trig.specs.DegreeSteps.{degreeK, degreeBelow, degreeRest, degreeFloat, sineDegrees, cosineDegrees, UpToWidest}
 use Rattle.trig.proofs.Choices.{is-true, chosen, both-true}
 use Rattle.trig.proofs.WaveError.{near-neg, wave-odd, wave-even, zero-of, is-zero, le-cross}
 use Rattle.trig.proofs.WaveSteps.{lt-pos, lt-neg}

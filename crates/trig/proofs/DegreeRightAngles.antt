@@ -17,7 +17,8 @@ use lib.Ieee.Scale.{finite}
 use Rattle.trig.specs.Kernel.{plusZero, one, sineKernel, cosineKernel}
 use Rattle.trig.specs.Waves.{placed}
 use Rattle.trig.specs.declared.Pair.{Pair}
-use Rattle.trig.specs.Degrees.{degreeK, degreeBelow, degreeRest, degreeFloat, plain, sineDegrees, cosineDegrees, turnable, UpToWidest, fortyFive, inUnits, quarterTurn, eighthTurn, quarterTurns, radiansOf, beside, squarePair}
+use Rattle.trig.specs.Degrees.{plain, turnable, squarePair}
+use Rattle.trig.specs.DegreeSteps.{degreeK, degreeBelow, degreeRest, degreeFloat, sineDegrees, cosineDegrees, UpToWidest, fortyFive, inUnits, quarterTurn, eighthTurn, quarterTurns, radiansOf, beside}
 use Rattle.trig.proofs.Choices.{split}
 use Rattle.trig.proofs.WaveError.{is-zero}
 use Rattle.trig.proofs.DegreeFloats.{count, count-is}

@@ -17,7 +17,8 @@ use Rattle.float.proofs.Units.{is-finite}
 use Rattle.float.proofs.Rounding.{Within, W, U-is, U-pos, round-rounded}
 use Rattle.trig.specs.Kernel.{plusZero, one, sineKernel, cosineKernel}
 use Rattle.trig.specs.Waves.{placed, Sized}
-use Rattle.trig.specs.Degrees.{quarterTurns, quarterTurn, inUnits, fortyFive, radiansOf, beside, degreeK, degreeBelow, degreeRest, degreeFloat, plain, sineDegrees, cosineDegrees, degreePair, turnable}
+use Rattle.trig.specs.Degrees.{plain, turnable}
+use Rattle.trig.specs.DegreeSteps.{quarterTurns, quarterTurn, inUnits, fortyFive, radiansOf, beside, degreeK, degreeBelow, degreeRest, degreeFloat, sineDegrees, cosineDegrees, degreePair}
 use Rattle.trig.specs.declared.PairAnswer.{PairAnswer}
 use Rattle.trig.specs.declared.PairAnswer.the-variants.{Values, OutOfRange}
 use Rattle.trig.proofs.Choices.{chosen}

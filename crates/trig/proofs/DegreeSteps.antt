@@ -11,7 +11,8 @@ use lib.Ieee.{Float, nan, inf, fin, binary64, mul, neg, ofBits, lt, eq, fits}
 use Rattle.trig.specs.Kernel.{plusZero, one, sineKernel, cosineKernel}
 use Rattle.trig.specs.Waves.{placed}
 use Rattle.float.specs.Helpers.{toRadians}
-use Rattle.trig.specs.Degrees.{quarterTurns, quarterTurn, eighthTurn, inUnits, fortyFive, radiansOf, beside, degreeK, degreeBelow, degreeRest, UpToWidest, degreeFloat, plain, sineDegrees, cosineDegrees}
+use Rattle.trig.specs.Degrees.{plain}
+use Rattle.trig.specs.DegreeSteps.{quarterTurns, quarterTurn, eighthTurn, inUnits, fortyFive, radiansOf, beside, degreeK, degreeBelow, degreeRest, UpToWidest, degreeFloat, sineDegrees, cosineDegrees}
 use Rattle.trig.proofs.Choices.{pick, drop}
 use Rattle.trig.proofs.Scaling.{whole-low, whole-high}
 use Rattle.trig.proofs.DegreeFloats.{times47, count, count-is, beside-few}

@@ -15,7 +15,8 @@ use Rattle.float.specs.Units.{U, Is}
 use Rattle.float.proofs.Rounding.{W, U-is, U-pos, Rounded}
 use Rattle.trig.specs.Kernel.{plusZero, one, cosineKernel}
 use Rattle.trig.specs.Waves.{placed}
-use Rattle.trig.specs.Degrees.{degreeK, degreeBelow, degreeRest, degreeFloat, plain, sineDegrees, cosineDegrees, degreePair, turnable}
+use Rattle.trig.specs.Degrees.{plain, turnable}
+use Rattle.trig.specs.DegreeSteps.{degreeK, degreeBelow, degreeRest, degreeFloat, sineDegrees, cosineDegrees, degreePair}
 use Rattle.trig.specs.declared.PairAnswer.{PairAnswer}
 use Rattle.trig.specs.declared.PairAnswer.the-variants.{Values, OutOfRange}
 use Rattle.trig.proofs.Choices.{chosen}

@@ -16,7 +16,8 @@ use lib.Ieee.Scale.{finite}
 use Rattle.trig.specs.Kernel.{plusZero, one, step, sum, sineKernel, cosineKernel}
 use Rattle.trig.specs.Kernel as Kernel
 use Rattle.trig.specs.Waves.{placed, Sized}
-use Rattle.trig.specs.Degrees.{degreeK, degreeBelow, degreeRest, degreeFloat, plain}
+use Rattle.trig.specs.Degrees.{plain}
+use Rattle.trig.specs.DegreeSteps.{degreeK, degreeBelow, degreeRest, degreeFloat}
 use Rattle.trig.proofs.WaveError.{zero-of}
 
 -- ---- they are doubles

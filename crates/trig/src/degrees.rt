@@ -3,6 +3,7 @@ ghost use mathlib.Core.Path.{_≡_};
 ghost use mathlib.Core.Bool.{true};
 ghost use Prim.Native.Nat.{ℕ, _*_, _^_, _≤_};
 ghost use Rattle.trig.specs.Degrees as Degrees;
+ghost use Rattle.trig.specs.DegreeSteps as DegreeSteps;
 use crate::Pair;
 use crate::reduction::Turn;
 use crate::waves::signed;
@@ -23,7 +24,7 @@ pub fn turnable(x: f64) -> bool
 // The whole number nearest to x / 90 degrees, a half up, for x in units of 2^-47 degrees.
 fn quarter_turns(x: u64) -> u64
     requires { ⌜ x ≤ 45000 * 2 ^ 47 ⌝ }
-    ensures { λ k. ⌜ k ≡ Degrees.quarterTurns x ⌝ }
+    ensures { λ k. ⌜ k ≡ DegreeSteps.quarterTurns x ⌝ }
 {
     (x + EIGHTH_TURN) / QUARTER_TURN
 }
@@ -31,7 +32,7 @@ fn quarter_turns(x: u64) -> u64
 // r * 2^-47 degrees in radians: the product with 2^-47 is exact, so this rounds once.
 fn radians_of(r: u64) -> f64
     requires { ⌜ r ≤ 2 ^ 53 ⌝ }
-    ensures { λ y. ⌜ y ≡ Degrees.radiansOf r ⌝ }
+    ensures { λ y. ⌜ y ≡ DegreeSteps.radiansOf r ⌝ }
 {
     float::to_radians((r as f64) * 7.105427357601002e-15)
 }
@@ -39,8 +40,8 @@ fn radians_of(r: u64) -> f64
 // The angle a, from 0 to 45,000 degrees, with the nearest k: k * 90 degrees less r where `below`, and plus r otherwise,
 // r in radians. Below 45 degrees k is 0, and the angle needs no units.
 fn reduced(a: f64) -> Turn
-    requires { ⌜ Degrees.UpToWidest a ⌝ }
-    ensures { λ t. ⌜ (t .k ≡ Degrees.degreeK a) × (t .below ≡ Degrees.degreeBelow a) × (t .r ≡ Degrees.degreeRest a) × (t .k ≤ 510) ⌝ }
+    requires { ⌜ DegreeSteps.UpToWidest a ⌝ }
+    ensures { λ t. ⌜ (t .k ≡ DegreeSteps.degreeK a) × (t .below ≡ DegreeSteps.degreeBelow a) × (t .r ≡ DegreeSteps.degreeRest a) × (t .k ≤ 510) ⌝ }
 {
     if a < 45.0 {
         let r = float::to_radians(a);
@@ -66,7 +67,7 @@ fn reduced(a: f64) -> Turn
 // Both, of an angle up to 45,000 degrees. `+ 0.0` makes a -0.0 a +0.0, at 180 degrees say, and changes nothing else.
 pub fn pair_in_degrees(x: f64) -> Pair
     requires { ⌜ Degrees.turnable x ≡ true ⌝ }
-    ensures { λ p. ⌜ (p .sine ≡ Degrees.sineDegrees x) × (p .cosine ≡ Degrees.cosineDegrees x) ⌝ }
+    ensures { λ p. ⌜ (p .sine ≡ DegreeSteps.sineDegrees x) × (p .cosine ≡ DegreeSteps.cosineDegrees x) ⌝ }
 {
     if x == 0.0 {
         return Pair {

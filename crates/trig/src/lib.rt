@@ -3,6 +3,7 @@
 ghost use mathlib.Core.Path.{_≡_};
 ghost use Rattle.trig.specs.Waves as Waves;
 ghost use Rattle.trig.specs.Degrees as Degrees;
+ghost use Rattle.trig.specs.DegreeSteps as DegreeSteps;
 ghost use Rattle.trig.specs.Arctangent as Arctangent;
 ghost use Rattle.trig.specs.Arccosine as Arccosine;
 
@@ -78,7 +79,7 @@ pub fn sine_cosine(x: f64) -> PairAnswer
 // The sine and the cosine of an angle in degrees, for |x| <= 45,000: exactly +0.0, 1 or -1 at multiples of 90. Turning
 // takes these; `sine_cosine` is for angles in radians.
 pub fn of_degrees(x: f64) -> PairAnswer
-    ensures name { λ a. ⌜ a ≡ Degrees.degreePair x ⌝ }
+    ensures name { λ a. ⌜ a ≡ DegreeSteps.degreePair x ⌝ }
     ensures right { λ a. ⌜ Degrees.TurnRight x a ⌝ }
 {
     if turnable(x) {

@@ -1,6 +1,6 @@
 use native.Mathlib.Omega.{arith}
 use borrow.Author.Needs.{needs}
-use Rattle.trig.specs.Degrees.{quarterTurns}
+use Rattle.trig.specs.DegreeSteps.{quarterTurns}
 use Rattle.trig.proofs.degrees.quarter_turns.Statement.{statement}
 use Rattle.trig.proofs.degrees.quarter_turns.Tie as tie
 

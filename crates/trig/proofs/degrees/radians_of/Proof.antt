@@ -2,7 +2,7 @@ use native.Mathlib.Omega.{arith}
 use borrow.Author.Needs.{needs}
 use lib.Dec.{le→leb}
 use lib.Ieee.{inFloat}
-use Rattle.trig.specs.Degrees.{radiansOf}
+use Rattle.trig.specs.DegreeSteps.{radiansOf}
 use Rattle.trig.proofs.degrees.radians_of.Statement.{statement}
 use Rattle.trig.proofs.degrees.radians_of.Tie as tie
 

@@ -6,7 +6,7 @@ use mathlib.Core.Bool.{true, false}
 use lib.Dec.{T, lit≤}
 use lib.Ieee.{binary64, fits}
 use borrow.Author.Needs.{needs}
-use Rattle.trig.specs.Degrees.{quarterTurns}
+use Rattle.trig.specs.DegreeSteps.{quarterTurns}
 use Rattle.trig.proofs.DegreeSteps.{in-range, at-most, k-few, beside-most, turn-small, turn-under, turn-over}
 use Rattle.trig.proofs.degrees.reduced.Statement.{statement}
 use Rattle.trig.proofs.degrees.reduced.Tie as tie
