@@ -9,4 +9,5 @@ pub mod Checks
 pub mod Idle
 pub mod Subdivides
 pub mod BothCalls
+pub mod Parallel
 pub mod Examples

@@ -7,3 +7,4 @@ pub mod Walking
 pub mod Room
 pub mod Promises
 pub mod Along
+pub mod Apart

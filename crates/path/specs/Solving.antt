@@ -1,5 +1,5 @@
 -- A path over lent numbers: the checks before the first pose, as one list, then pose after pose, each from the angles before it.
-use mathlib.Core.Bool.{Bool, true, cond, _&&_}
+use mathlib.Core.Bool.{Bool, true, not, cond, _&&_}
 use mathlib.Core.List.{List, [], _∷_}
 use Prim.Native.Nat.{ℕ, zero, suc, _+_, _/_, _%_}
 use lib.Dec.{eqb, leb}
@@ -12,13 +12,15 @@ use Rattle.lists.specs.Rows.{rows, flat}
 use Rattle.float.specs.Helpers.{nought}
 use Rattle.refusal.specs.declared.Refusal.{Refusal}
 use Rattle.refusal.specs.Numbers as Numbers
-use Rattle.geometry.specs.Vector.{vector}
+use Rattle.geometry.specs.Vector.{vector, cross, norm}
 use Rattle.chain.specs.declared.Checked.{Checked}
 use Rattle.chain.specs.declared.Checked.the-variants as Checked
 use Rattle.chain.specs.declared.Joints.{Joints}
 use Rattle.chain.specs.declared.Kinematics.{Kinematics}
 use Rattle.chain.specs.declared.ToolPose.{ToolPose}
 use Rattle.chain.specs.Check.{demand, firstRefusal, chainCheck, pivotsWithin, jointsFinite, jointsWithin}
+use Rattle.chain.specs.Prepared.{unitAxis}
+use Rattle.inverse.specs.Subproblem.{shortest}
 use Rattle.inverse.specs.declared.Angles.{Angles}
 use Rattle.path.specs.Exact.{anglesOf}
 use Rattle.path.specs.Posing.{setUp, poseAnswer}
@@ -90,9 +92,13 @@ widestCone = ofBits binary64 0x4024_0000_0000_0000
 unfoldable pub coneGood : Float → Bool
 coneGood cone = finite cone && Ieee.lt nought cone && Ieee.le cone widestCone
 
--- the chain of a call that takes a path
+-- two rotaries whose unit axes have a cross product shorter than 1e-9: such a chain can have endless solutions
+unfoldable pub parallel : Kinematics → Bool
+parallel k = eqb (k .count) 2 && Ieee.lt (norm (cross (unitAxis (k .first .axis)) (unitAxis (k .second .axis)))) shortest
+
+-- the chain of a call that walks a path
 unfoldable pub pathChain : Kinematics → Checked
-pathChain k = chainCheck k
+pathChain k = firstRefusal (chainCheck k ∷ demand (not (parallel k)) Numbers.parallelRotaries 0 ∷ [])
 
 unfoldable pub pathSizes : Kinematics → Start → ℕ → Bool
 pathSizes k start count = pivotsWithin k && startWithin start && leb count 100000

@@ -63,11 +63,28 @@ pub fn clear_from(out: &mut [f64], from: usize)
     }
 }
 
-// The chain check of a call that takes a path.
+// Two rotaries whose unit axes have a cross product shorter than 1e-9. Such a chain can have endless solutions, and which one a
+// path takes would depend on its start.
+fn parallel(k: Kinematics) -> bool
+    ensures { λ r. ⌜ r ≡ S.parallel k ⌝ }
+{
+    let first = k.first;
+    let second = k.second;
+    if k.count == 2 {
+        let outer = geometry::unit_or(first.axis, first.axis);
+        let inner = geometry::unit_or(second.axis, second.axis);
+        return geometry::norm(geometry::cross(outer, inner)) < 1e-9;
+    }
+    false
+}
+
+// The chain check of every call that walks a path: `inverse` and `choose` serve parallel rotaries, a path does not.
 pub fn path_chain(k: Kinematics) -> Checked
     ensures { λ r. ⌜ r ≡ S.pathChain k ⌝ }
 {
-    chain::chain_check(k)
+    let chain = chain::chain_check(k);
+    let apart = demand(!parallel(k), refusal::PARALLEL_ROTARIES, 0);
+    then(chain, apart)
 }
 
 // Above 0 and at most 10 degrees.

@@ -1,5 +1,5 @@
--- The refusals of every entry, by number: document 01's table of causes, with the names of src/lib.rt. Each name is its number
--- and nothing more: a contract cites the name.
+-- The refusals of every entry, by number: document 01's table of causes, and from 30 on those of document 02, with the names of
+-- src/lib.rt. Each name is its number and nothing more: a contract cites the name.
 use Prim.Native.Nat.{ℕ}
 use Rattle.refusal.specs.declared.Refusal.{Refusal}
 
@@ -122,6 +122,30 @@ noSpace = 28
 -- the bytes of a job or a model are malformed
 abbrev pub malformed : ℕ
 malformed = 29
+
+-- two rotaries are parallel, on a path
+abbrev pub parallelRotaries : ℕ
+parallelRotaries = 30
+
+-- the nearest tooth breaks the tolerance or leaves a rotary's limits
+abbrev pub toothMisses : ℕ
+toothMisses = 31
+
+-- sixteen paths are admitted already
+abbrev pub queueFull : ℕ
+queueFull = 32
+
+-- no admitted path has the number
+abbrev pub notAdmitted : ℕ
+notAdmitted = 33
+
+-- the shop is unknown
+abbrev pub unknownShop : ℕ
+unknownShop = 34
+
+-- the shop's balance is below the count
+abbrev pub balanceShort : ℕ
+balanceShort = 35
 
 -- ---- what a refusal hands back
 -- of a rotary, a link, a pose, a count so far or an offset

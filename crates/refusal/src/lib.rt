@@ -1,5 +1,5 @@
-// The refusals of every entry, by number: document 01's table of causes. A number is written here once, and specs/Numbers.antt
-// has the same names for the contracts.
+// The refusals of every entry, by number: document 01's table of causes, and from 30 on those of document 02. A number is
+// written here once, and specs/Numbers.antt has the same names for the contracts.
 
 // What a refusal hands back: its number; where, as the rotary, the link, the pose or the offset that goes with the number, 0
 // where there is none; and for LEAVES_AXIS the rotary's letter, else 0.
@@ -67,3 +67,15 @@ pub const TOO_MANY_INSERTIONS: u32 = 27;
 pub const NO_SPACE: u32 = 28;
 // The bytes of a job or a model are malformed.
 pub const MALFORMED: u32 = 29;
+// Two rotaries are parallel, on a path.
+pub const PARALLEL_ROTARIES: u32 = 30;
+// The nearest tooth breaks the tolerance or leaves a rotary's limits.
+pub const TOOTH_MISSES: u32 = 31;
+// Sixteen paths are admitted already.
+pub const QUEUE_FULL: u32 = 32;
+// No admitted path has the number.
+pub const NOT_ADMITTED: u32 = 33;
+// The shop is unknown.
+pub const UNKNOWN_SHOP: u32 = 34;
+// The shop's balance is below the count.
+pub const BALANCE_SHORT: u32 = 35;
