@@ -117,7 +117,10 @@ enum {
     /* the outputs must have space for every pose */
     MAZTUBEL_NO_SPACE = 28,
     /* the bytes of a chain, a job or a model must have the form of docs/FORMAT.md */
-    MAZTUBEL_MALFORMED = 29
+    MAZTUBEL_MALFORMED = 29,
+    /* on a path two rotaries must not be parallel: the cross product of their unit axes must have a length of at least
+     * 1e-9 */
+    MAZTUBEL_PARALLEL_ROTARIES = 30
 };
 
 /* ---- Sine, cosine, arctangent, arccosine, in radians */
@@ -347,6 +350,7 @@ uint32_t maztubel_link_in_part(const uint8_t *name, size_t name_length, const ui
  *   29      the chain's bytes
  *   18      the cone
  *   3 to 9  the chain
+ *   30      the two rotaries are parallel, also for a path without poses
  *   16      the start is not finite
  *   17      a pivot is above 100,000 mm in size, the start's position above 10,000,000 mm or an angle of it above
  *           36,000 degrees, or there are more than 100,000 poses
@@ -387,6 +391,7 @@ uint32_t maztubel_solve_path(const uint8_t *chain, size_t chain_length, const do
  *   19      a tolerance
  *   20      not one joint set for each pose
  *   3 to 9  the chain
+ *   30      the two rotaries are parallel, also for a path without poses
  *   16      a number of a pose or a joint set is not finite
  *   17      a pivot or a tip is above 100,000 mm in size, a position above 10,000,000 mm, an angle above 36,000
  *           degrees, or there are more than 100,000 poses
@@ -403,7 +408,7 @@ uint32_t maztubel_subdivide_path(const uint8_t *chain, size_t chain_length, cons
  *
  * Refusals that keep both outputs:
  *   20      no whole records, or a start of neither 0 nor 5 doubles
- *           29, 18, 3 to 9, 16 and 17 of maztubel_solve_path, before its first pose
+ *           29, 18, 3 to 9, 30, 16 and 17 of maztubel_solve_path, before its first pose
  *   28      there is no space for the given poses; *inserted is 0
  * Refusals that clear both outputs:
  *           the refusals of maztubel_solve_path at a pose

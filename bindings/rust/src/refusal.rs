@@ -104,6 +104,9 @@ reasons! {
     TooManyInsertions = 27, "a division must insert at most 10,000 poses";
     NoSpace = 28, "the outputs must have space for every pose";
     Malformed = 29, "the bytes of a chain, a job or a model must have the form of docs/FORMAT.md";
+    ParallelRotaries = 30,
+        "on a path two rotaries must not be parallel: the cross product of their unit axes must have a length of at \
+         least 1e-9";
 }
 
 impl fmt::Display for Reason {

@@ -156,6 +156,6 @@ fn every_number() {
     let numbers: Vec<u32> = numbers.into_iter().collect();
     assert_eq!(
         numbers,
-        [3, 4, 5, 6, 7, 8, 9, 16, 17, 18, 19, 23, 24, 25, 26, 28, 29]
+        [3, 4, 5, 6, 7, 8, 9, 16, 17, 18, 19, 23, 24, 25, 26, 28, 29, 30]
     );
 }

@@ -168,6 +168,62 @@ fn paths() {
     refused(past.unwrap_err(), 26, Place::Pose(0));
 }
 
+/// Two tables whose axes leave so much between them. The second is turned round and three times as long.
+fn leaning(off: f64) -> Chain {
+    changed(|c| {
+        c.rotaries[0].axis = X;
+        c.rotaries[1].axis = [-3.0, -3.0 * off, 0.0];
+    })
+}
+
+/// Every call that walks a path refuses them and keeps what it is lent, also without a pose; all others serve them.
+#[test]
+fn parallel_rotaries() {
+    let (chain, poses) = (leaning(0.0), [pose([0.0; 3], Z)]);
+    let nan = Joints {
+        position: [f64::NAN; 3],
+        angles: [9.0; 2],
+    };
+    let start = Start::From(nan);
+    let marked = Joints {
+        position: [9.0; 3],
+        ..nan
+    };
+    let (mut out_poses, mut joints) = (vec![pose([9.0; 3], [9.0; 3]); 2], vec![marked; 2]);
+    let before = (out_poses.clone(), joints.clone());
+    for poses in [&poses[..], &[]] {
+        let alone = solve_path_into(&chain, poses, start, 1.0, &mut joints);
+        refused(alone.unwrap_err(), 30, Place::Whole);
+        let both = solve_and_divide_into(
+            &chain,
+            poses,
+            start,
+            1.0,
+            TOLERANCES,
+            &mut out_poses,
+            &mut joints,
+        );
+        refused(both.unwrap_err(), 30, Place::Whole);
+        let sets = vec![nan; poses.len()];
+        let divided = subdivide_path_into(
+            &chain,
+            poses,
+            &sets,
+            TOLERANCES,
+            &mut out_poses,
+            &mut joints,
+        );
+        refused(divided.unwrap_err(), 30, Place::Whole);
+        assert_eq!((&out_poses, &joints), (&before.0, &before.1));
+    }
+    assert!(inverse(&chain, &poses[0], 0.0, [0.0; 2]).is_ok());
+    assert!(choose(&chain, &poses[0], 0.0, Choice::FirstPositive).is_ok());
+    assert!(forward(&chain, &Joints::default(), 0.0).is_ok());
+    assert_eq!(cable_number(&chain, &[Joints::default()], 0), Ok(0));
+    let numbers = [0.999e-9, 1.001e-9].map(|off| solved(&leaning(off), &[]).map_err(|r| r.number()));
+    assert_eq!(numbers, [Err(30), Ok(vec![])]);
+}
+
 /// Both signs of A reach the axis; the closest is outside A's limits, and the other turns C by half a turn.
 #[test]
 fn a_branch_flips() {
