@@ -33,7 +33,8 @@ impl RotaryLimits {
 ";
 
 /// Stands behind the copies of kinematics.rs, whose own text stays: how `solve_path` comes to one pose, told by its own steps, the
-/// clearance that it holds to the cone, and the gaps that `segment_within` holds to the tolerances.
+/// clearance that it holds to the cone, the length that R-3 holds to 1e-9, and the gaps that `segment_within` holds to the
+/// tolerances.
 const OF_A_POSE: &str = "
 #[derive(Clone, Copy, Debug, PartialEq)]
 pub(crate) enum Way {
@@ -48,6 +49,19 @@ impl Kinematics {
     pub(crate) fn clearance(&self, axis: Vec3) -> Option<f64> {
         let frame = singular_frame(self)?;
         Some(pole_clearance_deg(unit_direction(axis)?, frame.direction))
+    }
+
+    /// How long the cross product of the two rotaries' unit axes is.
+    pub(crate) fn across(&self) -> Option<f64> {
+        let [first, second] = &self.rotaries[..] else {
+            return None;
+        };
+        Some(norm(cross(unit_direction(first.axis)?, unit_direction(second.axis)?)))
+    }
+
+    /// Two rotaries that R-3 refuses on a path.
+    pub(crate) fn parallel(&self) -> bool {
+        self.across().is_some_and(|length| length < 1e-9)
     }
 
     /// Of the tip and of the axis, in the middle of two poses with their joints.

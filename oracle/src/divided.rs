@@ -1,7 +1,7 @@
 //! A call that divides a path, its joints given or solved first, and what is expected of it. The Rust is asked once for a division,
 //! with no end to its space; what a call must tell with the space that it is lent follows from that by counting. Document 01 decides
 //! what the Rust has not: the lengths (20), the bytes (29), numbers that the Rust does not read (16), the sizes (17) and the
-//! space (28), each in its place.
+//! space (28), each in its place; and document 02's R-3 parallel rotaries (30), which the Rust serves.
 
 use crate::calls::{self, GUARD, Guarded, LENT, LENT_AT, LENT_LETTER};
 use crate::divisions::{Division, From, Rooms};
@@ -136,6 +136,9 @@ fn of_joints(division: &Division, joints: &[f64]) -> Result<Verdict, Refusal> {
                 Refusal::keeping(refusal.number, refusal.at)
             }
         });
+    }
+    if setup.kinematics.parallel() {
+        return Err(Refusal::keeping(30, 0));
     }
     if !finite(poses) || !finite(joints) {
         return Err(Refusal::keeping(16, 0));
@@ -372,6 +375,8 @@ mod tests {
     const MALFORMED: Change = |division, _| division.chain[1] = 1;
     const TOLERANCE: Change = |division, _| division.tolerances[1] = f64::NAN;
     const LETTER: Change = |division, _| division.chain[8] = b'D';
+    /// The second rotary, behind the first, gets its axis.
+    const PARALLEL: Change = |division, _| division.chain.copy_within(16..40, 88);
     const SPACE: Change = |_, rooms| rooms[0] = POSE;
 
     #[test]
@@ -386,6 +391,7 @@ mod tests {
                     joints(division).extend([0.0; JOINTS]);
                 }),
                 (4, false, LETTER),
+                (30, false, PARALLEL),
                 (16, false, |division, _| {
                     division.poses[POSE + 5] = f64::NAN;
                 }),
@@ -408,6 +414,7 @@ mod tests {
                     }
                 }),
                 (4, false, LETTER),
+                (30, false, PARALLEL),
                 (16, false, |division, _| joints(division)[4] = f64::NAN),
                 (17, false, |division, _| joints(division)[0] = 2e7),
                 (28, false, SPACE),

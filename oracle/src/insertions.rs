@@ -32,7 +32,7 @@ const ALONE: &str = "subdivide_path";
 const BOTH: &str = "solve_and_divide";
 
 /// What both can answer, and what only solving can.
-const ANSWERED: [&str; 17] = [
+const ANSWERED: [&str; 18] = [
     "served",
     "3",
     "4",
@@ -50,6 +50,7 @@ const ANSWERED: [&str; 17] = [
     "28 at the first insertion",
     "28 at a later one",
     "29",
+    "30",
 ];
 const SOLVING: [&str; 9] = [
     "18",
@@ -480,7 +481,7 @@ mod tests {
         &mut told.told.numbers[start..start + rooms[1]]
     }
 
-    const FAULTS: [(&str, Fault); 12] = [
+    const FAULTS: [(&str, Fault); 13] = [
         ("a count of 0", |_, told| told.inserted[1] = 0),
         ("a count of the space", |rooms, told| {
             if told.told.number == 0 {
@@ -516,6 +517,11 @@ mod tests {
         }),
         ("joints cleared with 17", |rooms, told| {
             if told.told.number == 17 {
+                joints(rooms, told).fill(0);
+            }
+        }),
+        ("joints cleared with 30", |rooms, told| {
+            if told.told.number == 30 {
                 joints(rooms, told).fill(0);
             }
         }),

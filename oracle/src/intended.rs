@@ -74,7 +74,10 @@ fn frame(pivot: f64, joints: [f64; JOINTS]) -> (bool, u32) {
 }
 
 fn inverse(pivot: f64, tip: f64, tool: f64, hint: [f64; 2]) -> (bool, u32) {
-    let chain = head(pivot);
+    inverse_on(head(pivot), tip, tool, hint)
+}
+
+fn inverse_on(chain: Chain, tip: f64, tool: f64, hint: [f64; 2]) -> (bool, u32) {
     let pose = [&[tip], &AT_REST[1..]].concat();
     let case = inverse_cases::Case {
         chain: chain.bytes(),
@@ -108,7 +111,10 @@ fn solve(chain: Chain, poses: Vec<f64>, start: &[f64]) -> (bool, u32) {
 }
 
 fn divide(pivot: f64, poses: Vec<f64>, joints: Vec<f64>) -> (bool, u32) {
-    let chain = head(pivot);
+    divide_on(head(pivot), poses, joints)
+}
+
+fn divide_on(chain: Chain, poses: Vec<f64>, joints: Vec<f64>) -> (bool, u32) {
     let rust = untouched::subdivide_path(&untouched::setup(&chain), &poses, &joints, [0.5; 2]);
     let rooms = [poses.len(), joints.len()];
     let division = Division {
@@ -254,6 +260,29 @@ fn a_long_winding() {
     let lean = |y: f64| [0.0, 0.0, 0.0, 0.0, y, 1.0].to_vec();
     assert_eq!(solve(chain, lean(1e-3), &start), BOTH);
     assert_eq!(solve(chain, lean(-1e-3), &start), rust_alone(26));
+}
+
+/// Heads A and B about (1, 0, 0) and nearly so. The cross product is 1e-9 long, or a place less. At 1e-9 itself both find a pose
+/// unreachable: the Rust solves no two circles whose axes are that close.
+#[test]
+fn parallel_rotaries() {
+    let heads = |off: f64| {
+        let mut chain = head(0.0);
+        chain.count = 2;
+        chain.rotaries[1] = chain.rotaries[0];
+        (chain.rotaries[0].letter, chain.rotaries[0].axis) = (b'A', [1.0, 0.0, 0.0]);
+        (chain.rotaries[1].letter, chain.rotaries[1].axis) = (b'B', [1.0, off, 0.0]);
+        chain
+    };
+    let [apart, parallel] = [1e-9, 1e-9f64.next_down()].map(heads);
+    let rest = vec![0.0; JOINTS];
+    assert_eq!(solve(apart, Vec::new(), &[]), BOTH);
+    assert_eq!(solve(apart, at_tip(0.0), &[]), (false, 25));
+    assert_eq!(divide_on(apart, at_tip(0.0), rest.clone()), BOTH);
+    assert_eq!(solve(parallel, Vec::new(), &[]), rust_alone(30));
+    assert_eq!(solve(parallel, at_tip(0.0), &[]), rust_alone(30));
+    assert_eq!(divide_on(parallel, at_tip(0.0), rest), rust_alone(30));
+    assert_eq!(inverse_on(parallel, 0.0, 0.0, [0.0; 2]), BOTH);
 }
 
 #[test]

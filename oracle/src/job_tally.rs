@@ -84,7 +84,7 @@ const CABLE: [&str; 20] = [
     "20",
     "29",
 ];
-const POSTED: [&str; 20] = [
+const POSTED: [&str; 21] = [
     "poses, none inserted",
     "poses, some inserted",
     "3",
@@ -105,6 +105,7 @@ const POSTED: [&str; 20] = [
     "26 pose",
     "28",
     "29",
+    "30",
 ];
 
 #[derive(Default)]

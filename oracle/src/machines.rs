@@ -14,7 +14,10 @@ pub fn machine(random: &mut Random) -> Chain {
         0 | 1 => {}
         2..=6 => square(&mut chain, random),
         7 | 8 => slanted(&mut chain, random),
-        9 => nearly_parallel(&mut chain, random),
+        9 => match random.below(2) {
+            0 => nearly_parallel(&mut chain, random),
+            _ => just_parallel(&mut chain, random),
+        },
         10 | 11 => nearly_square(&mut chain, random),
         12 => at_tolerance(&mut chain, random),
         13 => third_axis(&mut chain, random),
@@ -188,6 +191,25 @@ fn nearly_parallel(chain: &mut Chain, random: &mut Random) {
         ),
         _ => square_to(axis),
     };
+}
+
+/// A cross product of 1e-9, the shortest that is not parallel, or some places more or less; the axes of any length, one of them
+/// often turned round.
+fn just_parallel(chain: &mut Chain, random: &mut Random) {
+    chain.count = 2;
+    let on = slot(random);
+    let across = (on + 1 + random.below(2) as usize) % 3;
+    let leaning = random.below(2) as usize;
+    for rotary in &mut chain.rotaries {
+        rotary.axis = along(on, random);
+    }
+    chain.rotaries[leaning].axis[across] = signed(moved(1e-9, 2, random), random);
+    for rotary in &mut chain.rotaries {
+        let power = random.one_of(&[0, 0, 3, -40, 400]);
+        rotary.axis = scaled(rotary.axis, power_of_two(power));
+    }
+    let spindle = random.one_of(&[on, across]);
+    chain.spindle = along(spindle, random);
 }
 
 /// Both rotaries square to the spindle and to each other.

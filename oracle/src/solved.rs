@@ -1,6 +1,6 @@
 //! A call of solve_path, and what is expected of it. The Rust answers where it has the check, its words turned into document 01's
 //! numbers; document 01 where it has not: the lengths (20), the bytes (29), the sizes (17), the room (28) and the angles of an
-//! answer (26), each in its place.
+//! answer (26), each in its place; and document 02's R-3 for parallel rotaries (30), which the Rust serves.
 
 use crate::calls::{GUARD, Guarded, LENT, LENT_AT, LENT_LETTER, Told};
 use crate::joints::MOST_ANGLE;
@@ -54,13 +54,19 @@ pub fn expected(path: &Path) -> Answer {
     }
     let chain = reading::chain(&path.chain).map_err(|offset| before(29, offset as u64))?;
     let setup = ported::setup(&chain);
-    ported::solve_path(&setup, &[], &path.start, path.cone).map_err(|words| {
+    let number = |words: String| {
         if words == "singular_cone_deg must be in (0, 10]" {
             return before(18, 0);
         }
         let refusal = refusal(&words, &bare(&chain));
         before(refusal.number, refusal.at)
-    })?;
+    };
+    // The Rust judges cone, chain and start in one call. 30 stands behind the chain, so the start comes in a second one.
+    ported::solve_path(&setup, &[], &[], path.cone).map_err(number)?;
+    if setup.kinematics.parallel() {
+        return Err(before(30, 0));
+    }
+    ported::solve_path(&setup, &[], &path.start, path.cone).map_err(number)?;
     let start_fits = path.start.is_empty() || joints_fit(&path.start);
     if !pivots_fit(&chain) || !start_fits || count > MOST_POSES {
         return Err(before(17, 0));
@@ -210,6 +216,7 @@ pub fn reduced(path: &Path, differs: impl Fn(&Path) -> bool) -> Path {
 #[cfg(test)]
 mod tests {
     use super::*;
+    use crate::chains::Chain;
     use crate::random::Random;
 
     /// A path of two poses that is served, with a start.
@@ -220,6 +227,11 @@ mod tests {
     }
 
     type Change = fn(&mut Path);
+
+    /// The second rotary, behind the first, gets its axis.
+    fn make_parallel(chain: &mut [u8]) {
+        chain.copy_within(16..40, 88);
+    }
 
     /// The number, and whether what is lent is cleared.
     fn refused(changes: &[Change]) -> (u32, bool) {
@@ -234,11 +246,12 @@ mod tests {
     /// Each change brings a refusal of its own, and with all those behind it the same.
     #[test]
     fn checks_stand_in_order() {
-        let changes: [(u32, Change); 7] = [
+        let changes: [(u32, Change); 8] = [
             (20, |path| path.start.truncate(4)),
             (29, |path| path.chain[1] = 1),
             (18, |path| path.cone = 0.0),
             (4, |path| path.chain[8] = b'D'),
+            (30, |path| make_parallel(&mut path.chain)),
             (16, |path| path.start[4] = f64::INFINITY),
             (17, |path| path.start[0] = 2e7),
             (28, |path| path.room = JOINTS),
@@ -254,6 +267,35 @@ mod tests {
                 .collect();
             assert_eq!(refused(&all), (number, false));
         }
+    }
+
+    /// 1e-9 is not shorter than 1e-9. Neither sign nor length matters, and one rotary is not parallel to anything.
+    #[test]
+    fn parallel_is_short_of_1e_9() {
+        let with = |count: u8, scale: f64, off: f64| {
+            let mut chain = Chain {
+                count,
+                spindle: [0.0, 0.0, 1.0],
+                ..Chain::default()
+            };
+            (chain.rotaries[0].letter, chain.rotaries[1].letter) = (b'A', b'B');
+            chain.rotaries[0].axis = [1.0, 0.0, 0.0];
+            chain.rotaries[1].axis = [scale, scale * off, 0.0];
+            let path = Path {
+                chain: chain.bytes(),
+                cone: 1.0,
+                ..Path::default()
+            };
+            expected(&path).err().map(|refusal| refusal.number)
+        };
+        for scale in [1.0, -1.0, 5.0, -0.125, 1e-14, 1e150] {
+            assert_eq!(with(2, scale, 0.0), Some(30));
+            assert_eq!(with(2, scale, 0.999e-9), Some(30));
+            assert_eq!(with(2, scale, 1.001e-9), None);
+            assert_eq!(with(1, scale, 0.0), None);
+        }
+        assert_eq!(with(2, 1.0, 1e-9), None);
+        assert_eq!(with(2, 1.0, 1e-9f64.next_down()), Some(30));
     }
 
     #[test]

@@ -4,7 +4,7 @@
 use crate::calls::Told;
 use crate::chains::Chain;
 use crate::from_libm::FromLibm;
-use crate::lean::{cross, dot, unit};
+use crate::lean::dot;
 use crate::met::{Account, Differences, Met};
 use crate::original::ported::kinematics::Way;
 use crate::parts::Outcome;
@@ -19,7 +19,7 @@ use std::process::ExitCode;
 const LOOKED_AT: usize = 40;
 
 /// The numbers that solve_path can answer, 0 for a path that is served; 16 and 17 are counted apart at a pose and before the first.
-const ANSWERED: [&str; 24] = [
+const ANSWERED: [&str; 28] = [
     "served",
     "3",
     "4",
@@ -44,15 +44,18 @@ const ANSWERED: [&str; 24] = [
     "26",
     "28",
     "29",
+    "30",
+    "30 a place below 1e-9",
+    "30 on axes that are opposite",
+    "30 without a pose",
 ];
 
 /// Long paths that must be served, each once at least.
 const LONG: [&str; 2] = ["served, 5000 poses", "served, 100000 poses"];
 
 /// How a pose is solved: outside the cone, on every machine the first and on those of two rotaries the next, then inside it.
-const EXACT: [&str; 5] = [
+const EXACT: [&str; 4] = [
     "exact: one solution",
-    "exact: parallel rotaries",
     "exact: the closest of two",
     "exact: the farther of two",
     "exact: the farther, 90 degrees off",
@@ -60,12 +63,13 @@ const EXACT: [&str; 5] = [
 const CONE: [&str; 2] = ["cone: locked", "cone: the pole"];
 
 /// What a pose meets exactly.
-const EXACTLY: [&str; 5] = [
+const EXACTLY: [&str; 6] = [
     "two solutions as near",
     "on the cone's border",
     "on a limit",
     "half a turn on",
     "at 36,000 degrees",
+    "rotaries just not parallel",
 ];
 
 /// The machines, each with the limits of its rotaries.
@@ -139,6 +143,7 @@ impl Ways {
                 self.look(path, joints);
             }
             Err(refusal) if refusal.clears => self.look_at_refusal(path, refusal),
+            Err(refusal) if refusal.number == 30 => return self.look_at_parallel(path),
             Err(_) => return,
         }
         let chain = reading::chain(&path.chain).expect("a chain whose poses are looked at");
@@ -152,6 +157,7 @@ impl Ways {
         let long = format!("served, {} poses", path.poses.len() / POSE);
         self.met.count_if(&long, LONG.contains(&long.as_str()));
         let rust = ported::setup(&chain).kinematics;
+        self.met.count_if(EXACTLY[5], rust.across() == Some(1e-9));
         let mut previous = match path.start[..] {
             [_, _, _, first, second] => [first, second],
             _ => [0.0; 2],
@@ -162,7 +168,7 @@ impl Ways {
             let way = rust.way(&ported::tool_pose(pose), previous, path.cone);
             let (way, all) = way.expect("a pose that is solved");
             self.met
-                .count(format!("{}, {}", words(way, &all, &chain), kind(&chain)));
+                .count(format!("{}, {}", words(way, &all), kind(&chain)));
             self.met.count_if(EXACTLY[0], as_near(&all, previous));
             let in_cone = matches!(way, Way::Locked | Way::Pole);
             self.met.count_if(
@@ -185,6 +191,7 @@ impl Ways {
     fn look_at_refusal(&mut self, path: &Path, refusal: &Refusal) {
         let chain = reading::chain(&path.chain).expect("a chain whose poses are looked at");
         let rust = ported::setup(&chain).kinematics;
+        self.met.count_if(EXACTLY[5], rust.across() == Some(1e-9));
         let axis = ported::tool_pose(&path.poses[POSE * refusal.at as usize..]).axis;
         let in_cone = rust
             .clearance(axis)
@@ -193,6 +200,19 @@ impl Ways {
             .count_if("24 in the cone", refusal.number == 24 && in_cone);
         let nearly = refusal.number == 25 && rust.nearly_reaches(axis);
         self.met.count_if("25 within 1e-7 of the reach", nearly);
+    }
+
+    /// At rotaries that are refused on a path.
+    fn look_at_parallel(&mut self, path: &Path) {
+        let chain = reading::chain(&path.chain).expect("a chain that is judged");
+        let across = ported::setup(&chain).kinematics.across();
+        let [first, second] = chain.rotaries.map(|rotary| rotary.axis);
+        let below = across == Some(1e-9f64.next_down());
+        self.met.count_if("30 a place below 1e-9", below);
+        let opposite = dot(first, second) < 0.0;
+        self.met.count_if("30 on axes that are opposite", opposite);
+        let empty = path.poses.is_empty();
+        self.met.count_if("30 without a pose", empty);
     }
 
     pub fn differences(&self) -> u64 {
@@ -256,23 +276,16 @@ fn all() -> Vec<String> {
 }
 
 /// Which of `EXACT` or of `CONE`.
-fn words(way: Way, all: &[[f64; 2]], chain: &Chain) -> &'static str {
+fn words(way: Way, all: &[[f64; 2]]) -> &'static str {
     let apart = |slot: usize| (all[0][slot] - all[1][slot]).abs();
     match way {
-        Way::Alone if chain.count == 2 && parallel(chain) => EXACT[1],
         Way::Alone => EXACT[0],
-        Way::Closest => EXACT[2],
-        Way::Other if apart(0).max(apart(1)) == 90.0 => EXACT[4],
-        Way::Other => EXACT[3],
+        Way::Closest => EXACT[1],
+        Way::Other if apart(0).max(apart(1)) == 90.0 => EXACT[3],
+        Way::Other => EXACT[2],
         Way::Locked => CONE[0],
         Way::Pole => CONE[1],
     }
-}
-
-fn parallel(chain: &Chain) -> bool {
-    let [first, second] = chain.rotaries.map(|rotary| unit(rotary.axis));
-    let across = cross(first, second);
-    dot(across, across).sqrt() < 1e-9
 }
 
 fn as_near(all: &[[f64; 2]], previous: [f64; 2]) -> bool {
@@ -330,20 +343,23 @@ mod tests {
 
     type Fault = fn(&Path, &mut Told);
 
-    /// Compares what an export with a fault would tell, and gives how often that was noticed.
+    /// Compares what an export with a fault would tell, up to the first time that it is noticed.
     fn noticed(fault: Fault) -> u64 {
         let mut random = Random::new(7);
         let mut ways = Ways::default();
-        for _ in 0..3000 {
+        for _ in 0..9000 {
             let path = Path::drawn(&mut random);
             let mut told = telling(&path, &expected(&path));
             fault(&path, &mut told);
             ways.hold(&path, &told);
+            if ways.differences() > 0 {
+                break;
+            }
         }
         ways.differences()
     }
 
-    const FAULTS: [(&str, Fault); 8] = [
+    const FAULTS: [(&str, Fault); 10] = [
         ("the pose behind the one at fault", |_, told| {
             if (23..=26).contains(&told.number) {
                 told.at[1] += 1;
@@ -377,6 +393,16 @@ mod tests {
         ("a last place of the first angle", |path, told| {
             if told.number == 0 && path.room > 0 {
                 told.numbers[GUARD + 3] ^= 1;
+            }
+        }),
+        ("parallel rotaries behind the start", |path, told| {
+            if told.number == 30 && path.start.iter().any(|x| !x.is_finite()) {
+                told.number = 16;
+            }
+        }),
+        ("joints cleared with 30", |path, told| {
+            if told.number == 30 {
+                told.numbers[GUARD..GUARD + path.room].fill(0);
             }
         }),
         ("the cone behind the start", |path, told| {

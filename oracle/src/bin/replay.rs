@@ -163,8 +163,8 @@ mod sample {
     }
 
     fn of_paths<'a>() -> Vec<Entry<'a>> {
-        let path = [16, 17, 18, 20, 23, 24, 25, 26, 28];
-        let divided = [16, 17, 19, 20, 28];
+        let path = [16, 17, 18, 20, 23, 24, 25, 26, 28, 30];
+        let divided = [16, 17, 19, 20, 28, 30];
         vec![
             Entry::new("solve_path", 140, &[&CHAIN, &path], replayed_calls::of_path),
             Entry::new(
