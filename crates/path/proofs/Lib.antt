@@ -8,3 +8,4 @@ pub mod Room
 pub mod Promises
 pub mod Along
 pub mod Apart
+pub mod Lock

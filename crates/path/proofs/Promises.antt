@@ -38,7 +38,7 @@ use Rattle.path.specs.Unwinding.{unwindAngles, inside, differentBranch}
 use Rattle.path.specs.Singular.{singularFrame, inSingularCone, nearestPole}
 use Rattle.path.specs.Locking.{refused, withinLimits, finitePosition, placedAt, lockedJoints, strays, limited, unlessStraying, coneSolution}
 use Rattle.path.specs.Exact.{reachedBy, candidate, anglesOf, secondCandidate, positionFinite, unwound, ranked, ranksBefore, closestOrOther, ofRanked, alone, both, ofCandidates, ofPositions, ofRaw, exactPose}
-use Rattle.path.specs.Posing.{boundsOf, setUp, byFrame, solveOne, turnedWithin, withTurns, solvedTip, solvedPose, atPose, poseAnswer}
+use Rattle.path.specs.Posing.{boundsOf, setUp, leaves, orLocked, lockedOrExact, byFrame, solveOne, turnedWithin, withTurns, solvedTip, solvedPose, atPose, poseAnswer}
 use Rattle.path.specs.Solving.{PathAnswer, Along, AtPose, Kept, thenOn, withPose, solvePoses, startAngles, posesIn, solveCheck, unlessKept, solveChecked, solvePath}
 use Rattle.path.specs.Promise.{Served, OnPath}
 use Rattle.path.specs.declared.Bounds.{Bounds}
@@ -140,9 +140,20 @@ cone-inside s f target tip previous =
     (locked-placed s (f .«on_second») target tip previous)
 
 -- ---- one pose
+-- what holds of the lock and of the exact solution holds of what is taken
+or-locked : (P : Joints → Type 0) (exact locked : PoseAnswer) → Holds P exact → Holds P locked → Holds P (orLocked exact locked)
+or-locked P (At j) locked g h = cond-holds P (turnedWithin j) (At j) locked (λ e. g) (λ e. h)
+or-locked P (Refused r) locked g h = h
+
+locked-or-exact : (P : Joints → Type 0) (locked exact : PoseAnswer) → Holds P locked → Holds P exact → Holds P (lockedOrExact locked exact)
+unfolding lockedOrExact
+locked-or-exact P locked exact g h = cond-holds P (leaves locked) _ locked (λ e. or-locked P exact locked h g) (λ e. g)
+
 frame-inside : (s : Setup) (target tip : Vec3) (previous : Angles) (f : Frame) → Holds (Inside (s .bounds)) (byFrame s target tip previous f)
 frame-inside s target tip previous (Singular f) =
-    cond-holds (Inside (s .bounds)) (inSingularCone f (s .cone) target) _ _ (λ e. cone-inside s f target tip previous) (λ e. exact-inside s target tip previous)
+    cond-holds (Inside (s .bounds)) (inSingularCone f (s .cone) target) _ _
+    (λ e. locked-or-exact (Inside (s .bounds)) (coneSolution s f target tip previous) (exactPose s target tip previous) (cone-inside s f target tip previous) (exact-inside s target tip previous))
+    (λ e. exact-inside s target tip previous)
 frame-inside s target tip previous Regular = exact-inside s target tip previous
 
 -- what `P` the solution has, the pose has, with its angles within 36,000 degrees

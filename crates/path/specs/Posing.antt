@@ -1,10 +1,10 @@
 -- One pose of a path, in the order of its checks: 25 for its axis, 16 and 17 for its tip, then the solution, inside the cone or outside, and 26.
-use mathlib.Core.Bool.{Bool, not, cond, _&&_}
+use mathlib.Core.Bool.{Bool, false, not, cond, _&&_}
 use Prim.Native.Nat.{ℕ}
 use lib.Dec.{eqb}
 use lib.Ieee.{Float}
 use Rattle.refusal.specs.declared.Refusal.{Refusal}
-use Rattle.refusal.specs.Numbers.{notFinite, tooLarge, poseUnreachable, angleTooLarge}
+use Rattle.refusal.specs.Numbers.{notFinite, tooLarge, leavesAxis, poseUnreachable, angleTooLarge}
 use Rattle.geometry.specs.declared.Vec3.{Vec3}
 use Rattle.geometry.specs.Direction.{allFinite, unitDirection, along}
 use Rattle.chain.specs.declared.Joints.{Joints}
@@ -37,17 +37,30 @@ boundsOf k = record {
 unfoldable pub setUp : Kinematics → Float → Setup
 setUp k cone = record { chain = prepared k; bounds = boundsOf k; frame = singularFrame (prepared k); cone = cone }
 
+unfoldable pub turnedWithin : Joints → Bool
+turnedWithin j = within (j .a0) mostTurned && within (j .a1) mostTurned
+
 -- ---- the solution of a pose
+-- the lock leaves a rotary's limits
+abbrev pub leaves : PoseAnswer → Bool
+leaves (At j) = false
+leaves (Refused r) = eqb (r .number) leavesAxis
+
+-- the exact solution, where there is one with no angle past 36,000; else the lock's refusal
+abbrev pub orLocked : PoseAnswer → PoseAnswer → PoseAnswer
+orLocked (At j) locked = cond (turnedWithin j) (At j) locked
+orLocked (Refused r) locked = locked
+
+unfoldable pub lockedOrExact : PoseAnswer → PoseAnswer → PoseAnswer
+lockedOrExact locked exact = cond (leaves locked) (orLocked exact locked) locked
+
 abbrev pub byFrame : Setup → Vec3 → Vec3 → Angles → Frame → PoseAnswer
 byFrame s target tip previous (Singular f) =
-    cond (inSingularCone f (s .cone) target) (coneSolution s f target tip previous) (exactPose s target tip previous)
+    cond (inSingularCone f (s .cone) target) (lockedOrExact (coneSolution s f target tip previous) (exactPose s target tip previous)) (exactPose s target tip previous)
 byFrame s target tip previous Regular = exactPose s target tip previous
 
 unfoldable pub solveOne : Setup → Vec3 → Vec3 → Angles → PoseAnswer
 solveOne s target tip previous = byFrame s target tip previous (s .frame)
-
-unfoldable pub turnedWithin : Joints → Bool
-turnedWithin j = within (j .a0) mostTurned && within (j .a1) mostTurned
 
 abbrev pub withTurns : PoseAnswer → PoseAnswer
 withTurns (At j) = cond (turnedWithin j) (At j) (refused angleTooLarge)

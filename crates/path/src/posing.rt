@@ -1,10 +1,13 @@
 // One pose of a path: its own checks, the cone or the exact solution, and the size of the angles. Which pose it is, is said here, once for every refusal.
 ghost use mathlib.Core.Path.{_≡_};
 ghost use Rattle.path.specs.Posing as S;
+ghost use Rattle.path.specs.Locking.{coneSolution};
+ghost use Rattle.path.specs.Exact.{exactPose};
 use crate::Bounds;
 use crate::Frame;
 use crate::PoseAnswer;
 use crate::Setup;
+use crate::SingularFrame;
 use crate::exact::exact_pose;
 use crate::locking::cone_solution;
 use crate::locking::refused;
@@ -51,7 +54,41 @@ pub fn set_up(k: Kinematics, cone: f64) -> Setup
     }
 }
 
-// Locked inside the cone, exact outside.
+// Whether a rotary's limits are left.
+fn leaves(answer: PoseAnswer) -> bool
+    ensures { λ r. ⌜ r ≡ S.leaves answer ⌝ }
+{
+    match answer {
+        PoseAnswer::At(_) => false,
+        PoseAnswer::Refused(r) => r.number == refusal::LEAVES_AXIS,
+    }
+}
+
+// The exact solution, where there is one with no angle past 36,000; else the lock's refusal.
+fn or_locked(exact: PoseAnswer, locked: PoseAnswer) -> PoseAnswer
+    ensures { λ r. ⌜ r ≡ S.orLocked exact locked ⌝ }
+{
+    let PoseAnswer::At(j) = exact else {
+        return locked;
+    };
+    if turned_within(j) {
+        return exact;
+    }
+    locked
+}
+
+// Inside the cone: locked; where that leaves a rotary's limits, exact.
+fn in_cone(s: Setup, f: SingularFrame, target: Vec3, tip: Vec3, previous: Angles) -> PoseAnswer
+    ensures { λ r. ⌜ r ≡ S.lockedOrExact (coneSolution s f target tip previous) (exactPose s target tip previous) ⌝ }
+{
+    let locked = cone_solution(s, f, target, tip, previous);
+    if leaves(locked) {
+        return or_locked(exact_pose(s, target, tip, previous), locked);
+    }
+    locked
+}
+
+// Locked inside the cone where that keeps the limits, exact outside.
 fn solve_one(s: Setup, target: Vec3, tip: Vec3, previous: Angles) -> PoseAnswer
     ensures { λ r. ⌜ r ≡ S.solveOne s target tip previous ⌝ }
 {
@@ -60,7 +97,7 @@ fn solve_one(s: Setup, target: Vec3, tip: Vec3, previous: Angles) -> PoseAnswer
         return exact_pose(s, target, tip, previous);
     };
     if in_singular_cone(f, s.cone, target) {
-        return cone_solution(s, f, target, tip, previous);
+        return in_cone(s, f, target, tip, previous);
     }
     exact_pose(s, target, tip, previous)
 }
