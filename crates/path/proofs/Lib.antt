@@ -8,4 +8,4 @@ pub mod Room
 pub mod Promises
 pub mod Along
 pub mod Apart
-pub mod Lock
+pub mod Stops

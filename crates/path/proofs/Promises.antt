@@ -1,7 +1,7 @@
 -- Every joint set of a path is served: finite, within its limits, within 36,000 degrees, +0.0 for a rotary that is not there.
 use Prim.Native.Nat.{ℕ, suc}
 use mathlib.Core.Path.{_≡_, refl, sym, subst}
-use mathlib.Core.Bool.{Bool, true, false, not, cond, false≢true, and-eq-true-iff}
+use mathlib.Core.Bool.{Bool, true, false, not, cond, _&&_, false≢true, and-eq-true-iff}
 use mathlib.Core.List.{List, [], _∷_}
 use borrow.Author.Tests.{not-false}
 use lib.Dec.{eqb}
@@ -38,7 +38,7 @@ use Rattle.path.specs.Unwinding.{unwindAngles, inside, differentBranch}
 use Rattle.path.specs.Singular.{singularFrame, inSingularCone, nearestPole}
 use Rattle.path.specs.Locking.{refused, withinLimits, finitePosition, placedAt, lockedJoints, strays, limited, unlessStraying, coneSolution}
 use Rattle.path.specs.Exact.{reachedBy, candidate, anglesOf, secondCandidate, positionFinite, unwound, ranked, ranksBefore, closestOrOther, ofRanked, alone, both, ofCandidates, ofPositions, ofRaw, exactPose}
-use Rattle.path.specs.Posing.{boundsOf, setUp, leaves, orLocked, lockedOrExact, byFrame, solveOne, turnedWithin, withTurns, solvedTip, solvedPose, atPose, poseAnswer}
+use Rattle.path.specs.Posing.{boundsOf, setUp, leavesLimits, succeeds, lockedOrExact, byFrame, solveOne, turnedWithin, withTurns, solvedTip, solvedPose, atPose, poseAnswer}
 use Rattle.path.specs.Solving.{PathAnswer, Along, AtPose, Kept, thenOn, withPose, solvePoses, startAngles, posesIn, solveCheck, unlessKept, solveChecked, solvePath}
 use Rattle.path.specs.Promise.{Served, OnPath}
 use Rattle.path.specs.declared.Bounds.{Bounds}
@@ -140,14 +140,10 @@ cone-inside s f target tip previous =
     (locked-placed s (f .«on_second») target tip previous)
 
 -- ---- one pose
--- what holds of the lock and of the exact solution holds of what is taken
-or-locked : (P : Joints → Type 0) (exact locked : PoseAnswer) → Holds P exact → Holds P locked → Holds P (orLocked exact locked)
-or-locked P (At j) locked g h = cond-holds P (turnedWithin j) (At j) locked (λ e. g) (λ e. h)
-or-locked P (Refused r) locked g h = h
-
+-- what holds of the lock and of the exact solution holds of the one that is taken
 locked-or-exact : (P : Joints → Type 0) (locked exact : PoseAnswer) → Holds P locked → Holds P exact → Holds P (lockedOrExact locked exact)
 unfolding lockedOrExact
-locked-or-exact P locked exact g h = cond-holds P (leaves locked) _ locked (λ e. or-locked P exact locked h g) (λ e. g)
+locked-or-exact P locked exact g h = cond-holds P (leavesLimits locked && succeeds exact) exact locked (λ e. h) (λ e. g)
 
 frame-inside : (s : Setup) (target tip : Vec3) (previous : Angles) (f : Frame) → Holds (Inside (s .bounds)) (byFrame s target tip previous f)
 frame-inside s target tip previous (Singular f) =

@@ -25,7 +25,7 @@ use Rattle.path.specs.declared.PoseAnswer.the-variants.{At, Refused}
 use Rattle.path.specs.declared.Setup.{Setup}
 
 -- ---- what is solved, before what the rest comes to
-pub before : List Joints → PathAnswer → PathAnswer
+unfoldable pub before : List Joints → PathAnswer → PathAnswer
 before [] rest = rest
 before (j ∷ l) rest = thenOn j (before l rest)
 

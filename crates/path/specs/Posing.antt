@@ -41,18 +41,19 @@ unfoldable pub turnedWithin : Joints → Bool
 turnedWithin j = within (j .a0) mostTurned && within (j .a1) mostTurned
 
 -- ---- the solution of a pose
--- the lock leaves a rotary's limits
-abbrev pub leaves : PoseAnswer → Bool
-leaves (At j) = false
-leaves (Refused r) = eqb (r .number) leavesAxis
+-- the lock leaves a rotary's limits: 24, and no other refusal. A locked angle past 36,000 gets 26 later (`withTurns`)
+abbrev pub leavesLimits : PoseAnswer → Bool
+leavesLimits (At j) = false
+leavesLimits (Refused r) = eqb (r .number) leavesAxis
 
--- the exact solution, where there is one with no angle past 36,000; else the lock's refusal
-abbrev pub orLocked : PoseAnswer → PoseAnswer → PoseAnswer
-orLocked (At j) locked = cond (turnedWithin j) (At j) locked
-orLocked (Refused r) locked = locked
+-- the exact rule succeeds: an angle past 36,000 counts as failing
+abbrev pub succeeds : PoseAnswer → Bool
+succeeds (At j) = turnedWithin j
+succeeds (Refused r) = false
 
+-- inside the cone: the lock's answer, unless it leaves the limits and the exact rule, from the same angles, succeeds
 unfoldable pub lockedOrExact : PoseAnswer → PoseAnswer → PoseAnswer
-lockedOrExact locked exact = cond (leaves locked) (orLocked exact locked) locked
+lockedOrExact locked exact = cond (leavesLimits locked && succeeds exact) exact locked
 
 abbrev pub byFrame : Setup → Vec3 → Vec3 → Angles → Frame → PoseAnswer
 byFrame s target tip previous (Singular f) =

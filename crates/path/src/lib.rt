@@ -1,4 +1,5 @@
 // Joints along a path, each pose continuous with the one before it (solve_path of the Rust): exact where the rotaries can follow, locked inside the cone about the singular direction.
+// Where the lock would leave a rotary's limits the exact solution is taken there too, if there is one.
 // What is solved of one pose is by value and total; what is lent is touched in one place.
 mod closest;
 mod exact;

@@ -54,41 +54,49 @@ pub fn set_up(k: Kinematics, cone: f64) -> Setup
     }
 }
 
-// Whether a rotary's limits are left.
-fn leaves(answer: PoseAnswer) -> bool
-    ensures { λ r. ⌜ r ≡ S.leaves answer ⌝ }
+// Whether the lock leaves a rotary's limits.
+fn leaves_limits(locked: PoseAnswer) -> bool
+    ensures { λ r. ⌜ r ≡ S.leavesLimits locked ⌝ }
 {
-    match answer {
+    match locked {
         PoseAnswer::At(_) => false,
         PoseAnswer::Refused(r) => r.number == refusal::LEAVES_AXIS,
     }
 }
 
-// The exact solution, where there is one with no angle past 36,000; else the lock's refusal.
-fn or_locked(exact: PoseAnswer, locked: PoseAnswer) -> PoseAnswer
-    ensures { λ r. ⌜ r ≡ S.orLocked exact locked ⌝ }
+// Whether the exact rule has a solution with no angle past 36,000.
+fn succeeds(exact: PoseAnswer) -> bool
+    ensures { λ r. ⌜ r ≡ S.succeeds exact ⌝ }
 {
-    let PoseAnswer::At(j) = exact else {
+    match exact {
+        PoseAnswer::At(j) => turned_within(j),
+        PoseAnswer::Refused(_) => false,
+    }
+}
+
+// Inside the cone. The exact rule is computed only where the lock leaves a rotary's limits, so that every other pose
+// costs no more than the lock.
+fn locked_or_exact(
+    s: Setup,
+    f: SingularFrame,
+    target: Vec3,
+    tip: Vec3,
+    previous: Angles,
+) -> PoseAnswer
+    ensures { λ r. ⌜ r ≡ S.lockedOrExact (coneSolution s f target tip previous) (exactPose s target tip previous) ⌝ }
+{
+    let locked = cone_solution(s, f, target, tip, previous);
+    if !leaves_limits(locked) {
         return locked;
-    };
-    if turned_within(j) {
+    }
+    let exact = exact_pose(s, target, tip, previous);
+    if succeeds(exact) {
         return exact;
     }
     locked
 }
 
-// Inside the cone: locked; where that leaves a rotary's limits, exact.
-fn in_cone(s: Setup, f: SingularFrame, target: Vec3, tip: Vec3, previous: Angles) -> PoseAnswer
-    ensures { λ r. ⌜ r ≡ S.lockedOrExact (coneSolution s f target tip previous) (exactPose s target tip previous) ⌝ }
-{
-    let locked = cone_solution(s, f, target, tip, previous);
-    if leaves(locked) {
-        return or_locked(exact_pose(s, target, tip, previous), locked);
-    }
-    locked
-}
-
-// Locked inside the cone where that keeps the limits, exact outside.
+// Inside the cone locked, or exact where the lock leaves the limits; exact outside.
 fn solve_one(s: Setup, target: Vec3, tip: Vec3, previous: Angles) -> PoseAnswer
     ensures { λ r. ⌜ r ≡ S.solveOne s target tip previous ⌝ }
 {
@@ -97,7 +105,7 @@ fn solve_one(s: Setup, target: Vec3, tip: Vec3, previous: Angles) -> PoseAnswer
         return exact_pose(s, target, tip, previous);
     };
     if in_singular_cone(f, s.cone, target) {
-        return in_cone(s, f, target, tip, previous);
+        return locked_or_exact(s, f, target, tip, previous);
     }
     exact_pose(s, target, tip, previous)
 }

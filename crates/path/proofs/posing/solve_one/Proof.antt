@@ -19,12 +19,12 @@ returns c = rw (c .exact-pose .ensures, c .before .enum-told .given .1)
 in-singular-cone-requires : tie.Need-in-singular-cone-requires
 in-singular-cone-requires c κs = search needs
 
-in-cone-requires : tie.Need-in-cone-requires
-in-cone-requires c κs = search needs
+locked-or-exact-requires : tie.Need-locked-or-exact-requires
+locked-or-exact-requires c κs = search needs
 
 returns-2 : tie.Need-returns-2
 unfolding solveOne
-returns-2 c = rw (c .in-cone .ensures, c .before .before .before .before .frame .given .1, rw (c .before .before .in-singular-cone .ensures) at (c .before .if1 .taken))
+returns-2 c = rw (c .locked-or-exact .ensures, c .before .before .before .before .frame .given .1, rw (c .before .before .in-singular-cone .ensures) at (c .before .if1 .taken))
 
 exact-pose-requires-2 : tie.Need-exact-pose-requires-2
 exact-pose-requires-2 c κs = search needs
@@ -34,4 +34,4 @@ unfolding solveOne
 returns-3 c = rw (c .exact-pose2 .ensures, c .before .before .before .before .frame .given .1, rw (c .before .before .in-singular-cone .ensures) at (c .before .if1 .left))
 
 pub solve-one-spec : {M : Type 1} → statement M
-solve-one-spec = tie.close (tie.spec enum-known-frame enum-told exact-pose-requires returns in-singular-cone-requires in-cone-requires returns-2 exact-pose-requires-2 returns-3)
+solve-one-spec = tie.close (tie.spec enum-known-frame enum-told exact-pose-requires returns in-singular-cone-requires locked-or-exact-requires returns-2 exact-pose-requires-2 returns-3)
