@@ -32,9 +32,9 @@ impl RotaryLimits {
 }
 ";
 
-/// Stands behind the copies of kinematics.rs, whose own text stays: how `solve_path` comes to one pose, told by its own steps, the
-/// clearance that it holds to the cone, the length that R-3 holds to 1e-9, and the gaps that `segment_within` holds to the
-/// tolerances.
+/// Stands behind the copies of kinematics.rs, whose own text stays: how `solve_path` comes to one pose, told by its own steps, its
+/// loop over the poses with another rule inside the cone, the clearance that it holds to the cone, the length that R-3 holds to
+/// 1e-9, and the gaps that `segment_within` holds to the tolerances.
 const OF_A_POSE: &str = "
 #[derive(Clone, Copy, Debug, PartialEq)]
 pub(crate) enum Way {
@@ -43,9 +43,57 @@ pub(crate) enum Way {
     Other,
     Locked,
     Pole,
+    LockLeft,
+    PoleLeft,
 }
 
 impl Kinematics {
+    /// `solve_path`'s loop. Inside the cone `rule` chooses, from the lock's answer and from the exact one that it may ask for.
+    pub(crate) fn solve_by(
+        &self,
+        poses: &[ToolPose],
+        start: [f64; 2],
+        cone_deg: f64,
+        mut rule: impl FnMut(Result<Joints>, &dyn Fn() -> Result<Joints>) -> Result<Joints>,
+    ) -> Result<Vec<Joints>> {
+        let frame = singular_frame(self);
+        let (mut previous, mut out) = (start, Vec::with_capacity(poses.len()));
+        for (index, pose) in poses.iter().enumerate() {
+            let exact = || exact_pose(self, index, pose, previous);
+            let chosen = match frame {
+                Some(frame) if in_singular_cone(pose.axis, frame.direction, cone_deg) => {
+                    let locked = cone_solution(self, index, pose, frame, previous, cone_deg);
+                    rule(locked, &exact)?
+                }
+                _ => exact()?,
+            };
+            previous = chosen.angles;
+            out.push(chosen);
+        }
+        Ok(out)
+    }
+
+    /// Of a pose in the cone, on a chain without limits: the lock's angles, and those of the exact solutions, the closest first.
+    pub(crate) fn lock_and_exact(&self, pose: &ToolPose, previous: [f64; 2], cone_deg: f64) -> Option<([f64; 2], Vec<[f64; 2]>)> {
+        let frame = singular_frame(self)?;
+        if !in_singular_cone(pose.axis, frame.direction, cone_deg) {
+            return None;
+        }
+        let locked = cone_solution(self, 0, pose, frame, previous, cone_deg).ok()?;
+        Some((locked.angles, self.closest_first(pose, previous)?))
+    }
+
+    fn closest_first(&self, pose: &ToolPose, previous: [f64; 2]) -> Option<Vec<[f64; 2]>> {
+        let count = self.rotaries.len();
+        let all = self.unbounded_solutions(pose, PATH_TOOL_LENGTH, previous).ok()?;
+        let mut all: Vec<[f64; 2]> = all.iter().map(|sol| unwind_angles(sol.angles, previous, count)).collect();
+        all.sort_by(|l, r| {
+            let [left, right] = [l, r].map(|angles| rotary_distance(*angles, previous, count));
+            left.total_cmp(&right).then_with(|| angle_order(*l, *r))
+        });
+        Some(all)
+    }
+
     pub(crate) fn clearance(&self, axis: Vec3) -> Option<f64> {
         let frame = singular_frame(self)?;
         Some(pole_clearance_deg(unit_direction(axis)?, frame.direction))
@@ -89,15 +137,16 @@ impl Kinematics {
         {
             let locked = locked_joints(self, pose, target, frame, previous).ok()?;
             let strays = angle_between_deg(self.forward(&locked, PATH_TOOL_LENGTH).ok()?.axis, target) > cone_deg + 1e-6;
-            return Some((if strays { Way::Pole } else { Way::Locked }, Vec::new()));
+            let left = cone_solution(self, 0, pose, frame, previous, cone_deg).is_err();
+            let way = match (strays, left) {
+                (false, false) => Way::Locked,
+                (true, false) => Way::Pole,
+                (false, true) => Way::LockLeft,
+                (true, true) => Way::PoleLeft,
+            };
+            return Some((way, Vec::new()));
         }
-        let count = self.rotaries.len();
-        let all = self.unbounded_solutions(pose, PATH_TOOL_LENGTH, previous).ok()?;
-        let mut all: Vec<[f64; 2]> = all.iter().map(|sol| unwind_angles(sol.angles, previous, count)).collect();
-        all.sort_by(|l, r| {
-            let [left, right] = [l, r].map(|angles| rotary_distance(*angles, previous, count));
-            left.total_cmp(&right).then_with(|| angle_order(*l, *r))
-        });
+        let all = self.closest_first(pose, previous)?;
         let way = match all[..] {
             [_, _] if axis_outside(self, all[0]).is_some() => Way::Other,
             [_, _] => Way::Closest,

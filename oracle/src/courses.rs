@@ -10,6 +10,7 @@ use crate::machines::{border, equation, machine, off_spindle, square_to, turned,
 use crate::numbers::served;
 use crate::paths::{JOINTS, MOST_TIP, POSE, Path};
 use crate::random::Random;
+use crate::rust::ported;
 
 fn sound_cone(random: &mut Random) -> f64 {
     match random.below(8) {
@@ -330,4 +331,50 @@ pub fn straying(random: &mut Random) -> Path {
     path.room = JOINTS * count;
     path.chain = chain.bytes();
     path
+}
+
+/// Poses in the cone, with limits that the lock of one leaves, or just keeps.
+pub fn at_stops(random: &mut Random) -> Path {
+    let mut chain = with_pole(random);
+    let mut drawing = Drawing::new(chain, random);
+    drawing.cone = random.one_of(&[10.0, 5.0, 1.0, 0.05, drawing.cone]);
+    let mut path = drawing.path(0, random);
+    let count = random.one_of(&[1, 1, 2, 3, 4]);
+    for _ in 0..count {
+        let (cone, round) = (drawing.cone, within(180.0, random));
+        let pole = random.one_of(&[0.0, 0.0, 180.0]);
+        let axis = match random.below(12) {
+            0..=7 => drawing.tilted(pole + within(cone, random), round),
+            8 => drawing.axis(Style::Border(90.0), random),
+            9 => drawing.axis(Style::Sweep([cone / 4.0, 17.0]), random),
+            10 => drawing.axis(Style::Pole, random),
+            _ => drawing.axis(Style::Walk(45.0), random),
+        };
+        path.poses
+            .extend([(); 3].map(|()| served(MOST_TIP, 1000.0, random)));
+        path.poses.extend(axis);
+    }
+    path.room = JOINTS * count;
+    path.limits_to_lock(&mut chain, random);
+    path.chain = chain.bytes();
+    path
+}
+
+/// A machine with a singular direction, and no limits.
+fn with_pole(random: &mut Random) -> Chain {
+    loop {
+        let mut chain = match random.below(4) {
+            0 => usual(random),
+            1 => off_spindle(random),
+            _ => machine(random),
+        };
+        for rotary in &mut chain.rotaries {
+            (rotary.limited, rotary.limits) = (0, [0.0; 2]);
+        }
+        let rust = ported::setup(&chain).kinematics;
+        let spindle = ported::tool_pose(&[&[0.0; 3], &chain.spindle[..]].concat()).axis;
+        if ported::check(&rust).is_ok() && rust.clearance(spindle).is_some() {
+            return chain;
+        }
+    }
 }

@@ -10,6 +10,7 @@ use crate::from_libm::{OFF_BORDER, USUAL_CLEARANCE, USUAL_LENGTH, usual};
 use crate::original::untouched::kinematics::FiveAxisSetup;
 use crate::paths::{JOINTS, POSE};
 use crate::rust::untouched;
+use crate::stops;
 
 /// Solved joints that are farther away than this, in mm or degrees, are those of another place on the path. Where the joints are
 /// given those of one place are the same to the last bit.
@@ -143,7 +144,7 @@ fn divided(rust: &FiveAxisSetup, division: &Division) -> untouched::Told<[Vec<f6
     match &division.from {
         From::Joints(joints) => untouched::subdivide_path(rust, poses, joints, *tolerances),
         From::Start { start, cone } => {
-            let joints = untouched::solve_path(rust, poses, start, *cone)?;
+            let joints = stops::with_libm(rust, poses, start, *cone)?;
             untouched::subdivide_path(rust, poses, &joints, *tolerances)
         }
     }

@@ -3,6 +3,7 @@
 
 use crate::angles::{signed, within};
 use crate::chains::{Chain, chain_bytes, harmed_bytes, slot};
+use crate::courses::at_stops;
 use crate::divided::{MOST_INSERTED, Verdict};
 use crate::floats;
 use crate::halvings::Halvings;
@@ -14,6 +15,7 @@ use crate::paths::{JOINTS, MOST_TIP, POSE, Path, bad_cone};
 use crate::random::Random;
 use crate::reading;
 use crate::rust::ported;
+use crate::stops;
 use crate::walks::{poses_of, walk};
 use std::fmt;
 
@@ -157,10 +159,16 @@ fn bad_tolerance(random: &mut Random) -> f64 {
 }
 
 impl Drawn {
-    /// A path of any course, with the joints that are solved or those of a walk. Poses that are refused are mostly left out.
+    /// A path of any course or beside a stop, with the joints that are solved or those of a walk. Poses that are refused are mostly
+    /// left out.
     fn course(chain: Chain, random: &mut Random) -> Self {
-        let count = length(random) + random.below(6) as usize;
-        let path = Path::of_course(chain, count, random);
+        let path = match random.below(16) {
+            0 => at_stops(random),
+            _ => {
+                let count = length(random) + random.below(6) as usize;
+                Path::of_course(chain, count, random)
+            }
+        };
         if path.poses.is_empty() && random.below(8) > 0 {
             return Drawn::walk(chain, random);
         }
@@ -203,7 +211,7 @@ impl Drawn {
             poses, start, cone, ..
         } = &self.path;
         let rust = ported::setup(&self.chain);
-        ported::solve_path(&rust, poses, start, *cone).unwrap_or_default()
+        stops::solve_path(&rust, poses, start, *cone).unwrap_or_default()
     }
 
     fn both(&self, most: usize, random: &mut Random) -> Division {

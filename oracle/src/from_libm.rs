@@ -1,4 +1,4 @@
-//! How far the joints along a path lie from those that the Rust gives with libm.
+//! How far the joints along a path lie from those that the Rust gives with libm, by the same rule for the stops.
 //!
 //! Places where a cone, a limit, a branch or a half turn is met exactly are drawn on purpose, and there libm may fall to the other
 //! side; and near a pole outside the cone an angle is as uncertain as its pole is near. So poses whose angles lie a degree or more
@@ -8,6 +8,7 @@ use crate::chains::Chain;
 use crate::paths::{JOINTS, POSE, Path};
 use crate::rust::untouched;
 use crate::solved::{Answer, cause, pose_in};
+use crate::stops;
 
 /// Pivots and tips up to this many mm are those of a usual machine.
 pub(crate) const USUAL_LENGTH: f64 = 1000.0;
@@ -44,7 +45,7 @@ impl FromLibm {
         }
         self.paths += 1;
         let rust = untouched::setup(chain);
-        let libms = untouched::solve_path(&rust, &path.poses, &path.start, path.cone);
+        let libms = stops::with_libm(&rust, &path.poses, &path.start, path.cone);
         match (answer, libms) {
             (Ok(joints), Ok(libms)) => self.measure(path, chain, joints, &libms),
             (Err(refusal), Err(words)) => {

@@ -79,6 +79,8 @@ pub mod soak;
 #[cfg(original)]
 pub mod solved;
 #[cfg(original)]
+pub mod stops;
+#[cfg(original)]
 pub mod tally;
 pub mod targets;
 #[cfg(original)]

@@ -3,13 +3,14 @@
 
 use crate::angles::signed;
 use crate::chains::{Chain, bad_axis, chain_bytes, slot};
-use crate::courses::{Drawing, close_together, square_apart, straying};
+use crate::courses::{Drawing, at_stops, close_together, square_apart, straying};
 use crate::joints::joints;
 use crate::machines::{machine, usual};
 use crate::numbers::{not_finite, refused};
 use crate::random::Random;
 use crate::rust::ported;
 use crate::solved::pose_in;
+use crate::stops;
 use std::fmt;
 
 /// A tip's component may be as large as this.
@@ -36,6 +37,7 @@ impl Path {
             0 => square_apart(random),
             1 => close_together(random),
             2 => straying(random),
+            3 => at_stops(random),
             _ => {
                 let count = length(random);
                 Path::of_course(machine(random), count, random)
@@ -138,6 +140,47 @@ impl Path {
         }
     }
 
+    /// A pose in the cone gets limits beside the angles of its lock and of its exact solution, on a chain that has none. A rotary
+    /// whose angle is locked is limited at the first pose alone: on a later one the pose before would be outside already.
+    pub fn limits_to_lock(&mut self, chain: &mut Chain, random: &mut Random) {
+        let rust = ported::setup(chain);
+        let inside = |pose: &[f64]| {
+            let clearance = rust.kinematics.clearance(ported::tool_pose(pose).axis);
+            clearance.is_some_and(|degrees| degrees <= self.cone)
+        };
+        let poses = self.poses.chunks(POSE).enumerate();
+        let inside: Vec<usize> = poses.filter(|(_, pose)| inside(pose)).map(|(at, _)| at).collect();
+        if inside.is_empty() {
+            return;
+        }
+        let any = random.one_of(&inside);
+        let at = random.one_of(&[inside[0], any]);
+        let before = &self.poses[..POSE * at];
+        let Ok(solved) = ported::solve_path(&rust, before, &self.start, self.cone) else {
+            return;
+        };
+        let last = solved.chunks(JOINTS).next_back().unwrap_or(&self.start);
+        let previous = if last.is_empty() { [0.0; 2] } else { [last[3], last[4]] };
+        let pose = ported::tool_pose(&self.poses[POSE * at..]);
+        let angles = rust.kinematics.lock_and_exact(&pose, previous, self.cone);
+        let Some((lock, exact)) = angles.filter(|(_, exact)| !exact.is_empty()) else {
+            return;
+        };
+        let exact = random.one_of(&[exact[0], exact[0], exact[0], exact[exact.len() - 1]]);
+        let free: Vec<usize> = (0..2).filter(|&slot| lock[slot] != previous[slot]).collect();
+        let slots = match (at, random.below(4)) {
+            (0, 0) => vec![0, 1],
+            (0, 1) => vec![random.below(2) as usize],
+            (0, _) if free.is_empty() => vec![random.below(2) as usize],
+            _ => free,
+        };
+        for slot in slots {
+            let rotary = &mut chain.rotaries[slot];
+            rotary.limited = 1;
+            rotary.limits = stop_beside(lock[slot], exact[slot], previous[slot], random);
+        }
+    }
+
     /// The cone becomes the clearance of some pose, or one place less.
     fn cone_to_clearance(&mut self, chain: &Chain, random: &mut Random) {
         let count = self.poses.len() / POSE;
@@ -152,11 +195,11 @@ impl Path {
         }
     }
 
-    /// Leaves out poses that the Rust refuses, the first few of them, so that more paths are served.
+    /// Leaves out poses that are refused, the first few of them, so that more paths are served.
     fn mend(&mut self, chain: &Chain) {
         let setup = ported::setup(chain);
         for _ in 0..8 {
-            match ported::solve_path(&setup, &self.poses, &self.start, self.cone) {
+            match stops::solve_path(&setup, &self.poses, &self.start, self.cone) {
                 Err(words) if words.starts_with("pose ") => {
                     let at = POSE * pose_in(&words);
                     self.poses.drain(at..at + POSE);
@@ -192,6 +235,26 @@ fn limits_at(angles: &[f64], random: &mut Random) -> [f64; 2] {
         2 => [some, most.max(some.next_up())],
         3 => [least.min(some.next_down()), some],
         _ => [least, most.max(least.next_up())],
+    }
+}
+
+/// Limits with a stop at an angle of the exact solution, of the lock, between the two, or a place beside. Mostly they leave the lock
+/// outside, and often the exact solution inside, with the angle before the pose where that can be.
+fn stop_beside(lock: f64, exact: f64, previous: f64, random: &mut Random) -> [f64; 2] {
+    let up = exact > lock || (exact == lock && random.below(2) == 0);
+    let on = |x: f64| if up { x.next_up() } else { x.next_down() };
+    let stop = match random.below(12) {
+        0..=3 => exact,
+        4 | 5 => lock + (exact - lock) / 2.0,
+        6 | 7 => on(lock),
+        8 => lock,
+        9 | 10 => on(exact),
+        _ => exact + if up { 1.0 } else { -1.0 },
+    };
+    let span = random.one_of(&[1.0, 90.0, 360.0, 7200.0]);
+    match up {
+        true => [stop, stop.max(exact).max(previous) + span],
+        false => [stop.min(exact).min(previous) - span, stop],
     }
 }
 

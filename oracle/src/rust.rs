@@ -206,6 +206,35 @@ macro_rules! on_plain_numbers {
                 Ok(joints.into_iter().flat_map(set_numbers).collect())
             }
 
+            /// The same pose by pose, of a chain, a start and a cone that are served. Inside the cone `rule` chooses, from the
+            /// lock's answer and from the exact one that it may ask for.
+            pub fn solve_by(
+                setup: &FiveAxisSetup,
+                poses: &[f64],
+                start: &[f64],
+                cone: f64,
+                mut rule: impl FnMut(Told<[f64; 5]>, &dyn Fn() -> Told<[f64; 5]>) -> Told<[f64; 5]>,
+            ) -> Told<Vec<f64>> {
+                let poses: Vec<ToolPose> = poses.chunks(6).map(tool_pose).collect();
+                let start = match start {
+                    [] => [0.0; 2],
+                    start => joint_set(start).angles,
+                };
+                let told = |answer: crate::original::Result<Joints>| {
+                    answer.map(set_numbers).map_err(words)
+                };
+                let joints = setup
+                    .kinematics
+                    .solve_by(&poses, start, cone, |locked, exact| {
+                        let chosen = rule(told(locked), &|| told(exact()));
+                        chosen
+                            .map(|set| joint_set(&set))
+                            .map_err(IrError::InvalidInput)
+                    });
+                let joints = joints.map_err(words)?;
+                Ok(joints.into_iter().flat_map(set_numbers).collect())
+            }
+
             /// The divided poses and their joints.
             pub fn subdivide_path(
                 setup: &FiveAxisSetup,

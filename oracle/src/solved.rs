@@ -1,6 +1,7 @@
 //! A call of solve_path, and what is expected of it. The Rust answers where it has the check, its words turned into document 01's
 //! numbers; document 01 where it has not: the lengths (20), the bytes (29), the sizes (17), the room (28) and the angles of an
-//! answer (26), each in its place; and document 02's R-3 for parallel rotaries (30), which the Rust serves.
+//! answer (26), each in its place; and document 02's R-3 for parallel rotaries (30), which the Rust serves. Where a lock leaves a
+//! rotary's limits `stops` says what the Rust's steps come to.
 
 use crate::calls::{GUARD, Guarded, LENT, LENT_AT, LENT_LETTER, Told};
 use crate::joints::MOST_ANGLE;
@@ -10,6 +11,7 @@ use crate::paths::{JOINTS, MOST_TIP, POSE, Path};
 use crate::reading;
 use crate::reference::{bare, exceeds, finite, joints_fit, pivots_fit, refusal};
 use crate::rust::ported;
+use crate::stops;
 
 /// So many poses are served.
 pub const MOST_POSES: usize = 100_000;
@@ -79,7 +81,7 @@ pub fn expected(path: &Path) -> Answer {
 
 /// The Rust's answer, up to the first pose whose tip is too large or whose angles are.
 fn along(setup: &FiveAxisSetup, path: &Path) -> Answer {
-    let solve = |poses: &[f64]| ported::solve_path(setup, poses, &path.start, path.cone);
+    let solve = |poses: &[f64]| stops::solve_path(setup, poses, &path.start, path.cone);
     let far = path.poses.chunks(POSE).position(|pose| far(&pose[..3]));
     let answer = match far {
         None => solve(&path.poses),

@@ -3,6 +3,7 @@
 
 use crate::calls::Told;
 use crate::chains::Chain;
+use crate::courses::at_stops;
 use crate::from_libm::FromLibm;
 use crate::lean::dot;
 use crate::met::{Account, Differences, Met};
@@ -12,7 +13,10 @@ use crate::paths::{JOINTS, POSE, Path};
 use crate::random::Random;
 use crate::reading;
 use crate::rust::ported;
-use crate::solved::{Answer, MOST_POSES, Refusal, ask, expected, reduced, telling};
+use crate::solved::{
+    Answer, MOST_POSES, Refusal, ask, cause, expected, pose_in, reduced, telling,
+};
+use crate::stops::{self, Exact, Stop};
 use std::process::ExitCode;
 
 /// Of a path so many poses are looked at for the ways to them.
@@ -60,7 +64,28 @@ const EXACT: [&str; 4] = [
     "exact: the farther of two",
     "exact: the farther, 90 degrees off",
 ];
-const CONE: [&str; 2] = ["cone: locked", "cone: the pole"];
+const CONE: [&str; 4] = [
+    "cone: locked",
+    "cone: the pole",
+    "cone: lock left, exact taken",
+    "cone: lock left, exact refused",
+];
+
+/// A path with a pose whose lock leaves a rotary's limits.
+const LEFT: &str = "a lock left";
+
+/// What the exact rule comes to where the lock leaves a rotary's limits, and where that is.
+const STOPS: [&str; 9] = [
+    "lock left: exact flips the branch",
+    "lock left: exact leaves the same axis",
+    "lock left: exact leaves the other axis",
+    "lock left: exact unreachable",
+    "lock left: exact past 36,000",
+    "lock left: at the first pose, exact taken",
+    "lock left: twice on a path, exact taken",
+    "lock left: toward the pole, exact taken",
+    "lock left: locked again behind it",
+];
 
 /// What a pose meets exactly.
 const EXACTLY: [&str; 6] = [
@@ -101,9 +126,11 @@ impl Outcome for Ways {
 }
 
 impl Ways {
+    /// As many of any course, and as many beside a stop.
     pub fn compare_drawn(&mut self, paths: u64, random: &mut Random) {
         for _ in 0..paths {
             self.compare(&Path::drawn(random));
+            self.compare(&at_stops(random));
         }
     }
 
@@ -147,6 +174,7 @@ impl Ways {
             Err(_) => return,
         }
         let chain = reading::chain(&path.chain).expect("a chain whose poses are looked at");
+        self.look_at_stops(path, &chain, &answer);
         self.from_libm.see(path, &chain, &answer);
     }
 
@@ -163,6 +191,7 @@ impl Ways {
             _ => [0.0; 2],
         };
         let poses = path.poses.chunks(POSE).zip(joints.chunks(JOINTS));
+        let mut left_before = false;
         for (pose, set) in poses.take(LOOKED_AT) {
             let axis = ported::tool_pose(pose).axis;
             let way = rust.way(&ported::tool_pose(pose), previous, path.cone);
@@ -170,7 +199,12 @@ impl Ways {
             self.met
                 .count(format!("{}, {}", words(way, &all), kind(&chain)));
             self.met.count_if(EXACTLY[0], as_near(&all, previous));
-            let in_cone = matches!(way, Way::Locked | Way::Pole);
+            let left = matches!(way, Way::LockLeft | Way::PoleLeft);
+            let locked = matches!(way, Way::Locked | Way::Pole);
+            let in_cone = left || locked;
+            self.met.count_if(STOPS[7], way == Way::PoleLeft);
+            self.met.count_if(STOPS[8], left_before && locked);
+            left_before = left;
             self.met.count_if(
                 EXACTLY[1],
                 in_cone && rust.clearance(axis) == Some(path.cone),
@@ -184,6 +218,26 @@ impl Ways {
                 self.met.count_if(EXACTLY[4], angle.abs() == 36_000.0);
             }
             previous = [set[3], set[4]];
+        }
+    }
+
+    /// At the poses that were come to, of which a lock leaves the limits.
+    fn look_at_stops(&mut self, path: &Path, chain: &Chain, answer: &Answer) {
+        let setup = ported::setup(chain);
+        let (_, mut stops) = stops::with_stops(&setup, &path.poses, &path.start, path.cone);
+        if let Err(refusal) = answer {
+            stops.retain(|stop| pose_in(&stop.lock) as u64 <= refusal.at);
+        }
+        let taken: Vec<&Stop> = stops.iter().filter(|stop| stop.exact == Exact::Taken).collect();
+        self.met.count_if(LEFT, !stops.is_empty());
+        let first = taken.iter().any(|stop| pose_in(&stop.lock) == 0);
+        self.met.count_if(STOPS[5], first);
+        self.met.count_if(STOPS[6], taken.len() > 1);
+        for stop in &stops {
+            if let Some(what) = refused_at(stop) {
+                self.met.count(STOPS[what]);
+                self.met.count(format!("{}, {}", CONE[3], kind(chain)));
+            }
         }
     }
 
@@ -219,10 +273,12 @@ impl Ways {
         self.differences.count()
     }
 
-    /// Status 1 where there is a difference, or where something was met less often than `fewest` times.
-    pub fn print(&self, fewest: u64) -> ExitCode {
+    /// Status 1 where there is a difference, or where something was met less often than `fewest` times, or a lock left on fewer paths
+    /// than `left`.
+    pub fn print(&self, fewest: u64, left: u64) -> ExitCode {
         let long = LONG.map(|what| (what.to_owned(), 1));
         let all = all().into_iter().map(|what| (what, fewest)).chain(long);
+        let all = all.chain([(LEFT.to_owned(), left)]);
         let rare = self.met.print(all);
         println!("{} poses of served paths", self.poses);
         self.from_libm.print();
@@ -241,8 +297,8 @@ impl Account for Ways {
     }
 
     fn unmet(&self) -> Vec<String> {
-        let long = LONG.map(str::to_owned);
-        let unmet = self.met.unmet(all().into_iter().chain(long));
+        let others = [LONG[0], LONG[1], LEFT].map(str::to_owned);
+        let unmet = self.met.unmet(all().into_iter().chain(others));
         unmet
             .iter()
             .map(|what| format!("solve_path, {what}"))
@@ -272,6 +328,7 @@ fn all() -> Vec<String> {
         all.extend(on(&CONE, machine));
     }
     all.extend(EXACTLY.map(str::to_owned));
+    all.extend(STOPS.map(str::to_owned));
     all
 }
 
@@ -285,6 +342,23 @@ fn words(way: Way, all: &[[f64; 2]]) -> &'static str {
         Way::Other => EXACT[2],
         Way::Locked => CONE[0],
         Way::Pole => CONE[1],
+        Way::LockLeft | Way::PoleLeft => CONE[2],
+    }
+}
+
+/// Which of `STOPS`, where the exact solution is not taken.
+fn refused_at(stop: &Stop) -> Option<usize> {
+    let pose = pose_in(&stop.lock);
+    let words = match &stop.exact {
+        Exact::Taken => return None,
+        Exact::PastMost => return Some(4),
+        Exact::Refused(words) => words,
+    };
+    match (cause(words, pose), cause(&stop.lock, pose)) {
+        ((23, _), _) => Some(0),
+        ((24, letter), (_, locks)) => Some(1 + usize::from(letter != locks)),
+        ((25, _), _) => Some(3),
+        _ => None,
     }
 }
 
