@@ -342,7 +342,8 @@ uint32_t maztubel_link_in_part(const uint8_t *name, size_t name_length, const ui
  *           zero
  *   cone    in degrees, above 0 and at most 10. Where the tool axis is within the cone of the singular direction or
  *           its opposite, the rotary on that direction keeps its angle, and the other one brings the tool axis as
- *           near as it can
+ *           near as it can. If a rotary would leave its limits so, the exact solution is taken; 24 stands only if there
+ *           is none either
  *   joints  output, one joint set for each pose, and +0.0 behind them
  *
  * Refusals before the first pose, which keep the joints:

@@ -1,5 +1,6 @@
 //! The intended differences of docs/DIFFERENCES.md, each at its smallest input: what the untouched Rust serves there, and the number
-//! that the export refuses it with. Of a size the smallest input is the next double above its limit, at which both still agree.
+//! that the export refuses it with; at a stop in the cone the other way round. Of a size the smallest input is the next double above
+//! its limit, at which both still agree.
 //! The machine is that of document 01's example, a head C about the spindle, with its pivot and all joints at zero.
 
 use crate::calls;
@@ -249,6 +250,28 @@ fn paths() {
         solve(head(0.0), AT_REST.repeat(MOST_POSES + 1), &[]),
         rust_alone(17)
     );
+}
+
+/// A head B about y with a stop, over a table C about z, and a tool that leans to the side inside the cone. With C kept B would be at
+/// 0.573 degrees; the exact solution has it at 0.810. Where both leave the limits the Rust's refusal stands.
+#[test]
+fn a_stop_in_the_cone() {
+    let machine = |least: f64| {
+        let mut chain = head(0.0);
+        chain.count = 2;
+        chain.rotaries[1] = chain.rotaries[0];
+        chain.rotaries[1].carrier = 0;
+        let rotary = &mut chain.rotaries[0];
+        (rotary.letter, rotary.axis) = (b'B', [0.0, 1.0, 0.0]);
+        (rotary.limited, rotary.limits) = (1, [least, 90.0]);
+        chain
+    };
+    let lean = || [0.0, 0.0, 0.0, 0.01, 0.01, 1.0].to_vec();
+    assert_eq!(solve(machine(0.5), lean(), &[]), BOTH);
+    assert_eq!(solve(machine(0.6), lean(), &[]), (false, 0));
+    assert_eq!(solve(machine(0.9), lean(), &[]), (false, 24));
+    let rust = untouched::solve_path(&untouched::setup(&machine(0.6)), &lean(), &[], 1.0);
+    assert_eq!(rust, Err("pose 0 leaves axis B".to_owned()));
 }
 
 /// A head A about x at 36,000 degrees, and a tool that leans a little further.

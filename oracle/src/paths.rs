@@ -143,42 +143,53 @@ impl Path {
     /// A pose in the cone gets limits beside the angles of its lock and of its exact solution, on a chain that has none. A rotary
     /// whose angle is locked is limited at the first pose alone: on a later one the pose before would be outside already.
     pub fn limits_to_lock(&mut self, chain: &mut Chain, random: &mut Random) {
-        let rust = ported::setup(chain);
-        let inside = |pose: &[f64]| {
-            let clearance = rust.kinematics.clearance(ported::tool_pose(pose).axis);
-            clearance.is_some_and(|degrees| degrees <= self.cone)
-        };
-        let poses = self.poses.chunks(POSE).enumerate();
-        let inside: Vec<usize> = poses.filter(|(_, pose)| inside(pose)).map(|(at, _)| at).collect();
+        let rust = ported::setup(chain).kinematics;
+        let clearance = |pose: &[f64]| rust.clearance(ported::tool_pose(pose).axis);
+        let poses = self.poses.chunks(POSE).map(clearance).enumerate();
+        let inside = poses.filter(|(_, degrees)| degrees.is_some_and(|x| x <= self.cone));
+        let inside: Vec<usize> = inside.map(|(at, _)| at).collect();
         if inside.is_empty() {
             return;
         }
         let any = random.one_of(&inside);
         let at = random.one_of(&[inside[0], any]);
-        let before = &self.poses[..POSE * at];
-        let Ok(solved) = ported::solve_path(&rust, before, &self.start, self.cone) else {
-            return;
-        };
-        let last = solved.chunks(JOINTS).next_back().unwrap_or(&self.start);
-        let previous = if last.is_empty() { [0.0; 2] } else { [last[3], last[4]] };
-        let pose = ported::tool_pose(&self.poses[POSE * at..]);
-        let angles = rust.kinematics.lock_and_exact(&pose, previous, self.cone);
-        let Some((lock, exact)) = angles.filter(|(_, exact)| !exact.is_empty()) else {
+        let Some((previous, lock, exact)) = self.solutions_in_cone(chain, at) else {
             return;
         };
         let exact = random.one_of(&[exact[0], exact[0], exact[0], exact[exact.len() - 1]]);
-        let free: Vec<usize> = (0..2).filter(|&slot| lock[slot] != previous[slot]).collect();
+        let moved = (0..2).filter(|&slot| lock[slot] != previous[slot]);
+        let moved: Vec<usize> = moved.collect();
         let slots = match (at, random.below(4)) {
             (0, 0) => vec![0, 1],
             (0, 1) => vec![random.below(2) as usize],
-            (0, _) if free.is_empty() => vec![random.below(2) as usize],
-            _ => free,
+            (0, _) if moved.is_empty() => vec![random.below(2) as usize],
+            _ => moved,
         };
         for slot in slots {
             let rotary = &mut chain.rotaries[slot];
             rotary.limited = 1;
             rotary.limits = stop_beside(lock[slot], exact[slot], previous[slot], random);
         }
+    }
+
+    /// The angles before a pose in the cone, those of its lock, and those of its exact solutions, where it has any.
+    fn solutions_in_cone(
+        &self,
+        chain: &Chain,
+        at: usize,
+    ) -> Option<([f64; 2], [f64; 2], Vec<[f64; 2]>)> {
+        let rust = ported::setup(chain);
+        let before = &self.poses[..POSE * at];
+        let solved = ported::solve_path(&rust, before, &self.start, self.cone).ok()?;
+        let last = solved.chunks(JOINTS).next_back().unwrap_or(&self.start);
+        let previous = match last {
+            [_, _, _, first, second] => [*first, *second],
+            _ => [0.0; 2],
+        };
+        let pose = ported::tool_pose(&self.poses[POSE * at..]);
+        let solutions = rust.kinematics.lock_and_exact(&pose, previous, self.cone);
+        let (lock, exact) = solutions.filter(|(_, exact)| !exact.is_empty())?;
+        Some((previous, lock, exact))
     }
 
     /// The cone becomes the clearance of some pose, or one place less.

@@ -79,9 +79,15 @@ pub fn expected(path: &Path) -> Answer {
     along(&setup, path)
 }
 
-/// The Rust's answer, up to the first pose whose tip is too large or whose angles are.
+/// The Rust's answer, with the rule for the stops.
 fn along(setup: &FiveAxisSetup, path: &Path) -> Answer {
-    let solve = |poses: &[f64]| stops::solve_path(setup, poses, &path.start, path.cone);
+    along_by(path, |poses| {
+        stops::solve_path(setup, poses, &path.start, path.cone)
+    })
+}
+
+/// What `solve` answers of the path's poses, up to the first one whose tip is too large or whose angles are.
+pub(crate) fn along_by(path: &Path, solve: impl Fn(&[f64]) -> ported::Told<Vec<f64>>) -> Answer {
     let far = path.poses.chunks(POSE).position(|pose| far(&pose[..3]));
     let answer = match far {
         None => solve(&path.poses),

@@ -35,7 +35,10 @@ pub fn solve_path(
     cone: f64,
 ) -> Told<Vec<f64>> {
     let rust = ported::solve_path(setup, poses, start, cone);
-    if rust.as_ref().is_err_and(|words| !words.starts_with("pose ")) {
+    if rust
+        .as_ref()
+        .is_err_and(|words| !words.starts_with("pose "))
+    {
         return rust;
     }
     let (looped, stops) = with_stops(setup, poses, start, cone);
@@ -66,12 +69,7 @@ pub fn with_stops(
 }
 
 /// The same with libm.
-pub fn with_libm(
-    setup: &WithLibm,
-    poses: &[f64],
-    start: &[f64],
-    cone: f64,
-) -> Told<Vec<f64>> {
+pub fn with_libm(setup: &WithLibm, poses: &[f64], start: &[f64], cone: f64) -> Told<Vec<f64>> {
     let mut stops = Vec::new();
     untouched::solve_by(setup, poses, start, cone, |locked, exact| {
         rule(locked, exact, &mut stops)

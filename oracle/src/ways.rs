@@ -13,9 +13,7 @@ use crate::paths::{JOINTS, POSE, Path};
 use crate::random::Random;
 use crate::reading;
 use crate::rust::ported;
-use crate::solved::{
-    Answer, MOST_POSES, Refusal, ask, cause, expected, pose_in, reduced, telling,
-};
+use crate::solved::{Answer, MOST_POSES, Refusal, ask, cause, expected, pose_in, reduced, telling};
 use crate::stops::{self, Exact, Stop};
 use std::process::ExitCode;
 
@@ -228,7 +226,10 @@ impl Ways {
         if let Err(refusal) = answer {
             stops.retain(|stop| pose_in(&stop.lock) as u64 <= refusal.at);
         }
-        let taken: Vec<&Stop> = stops.iter().filter(|stop| stop.exact == Exact::Taken).collect();
+        let taken: Vec<&Stop> = stops
+            .iter()
+            .filter(|stop| stop.exact == Exact::Taken)
+            .collect();
         self.met.count_if(LEFT, !stops.is_empty());
         let first = taken.iter().any(|stop| pose_in(&stop.lock) == 0);
         self.met.count_if(STOPS[5], first);
@@ -414,6 +415,7 @@ fn example(path: &Path, told: &Told) -> String {
 mod tests {
     use super::*;
     use crate::calls::GUARD;
+    use crate::solved::along_by;
 
     type Fault = fn(&Path, &mut Told);
 
@@ -485,6 +487,74 @@ mod tests {
             }
         }),
     ];
+
+    type Set = [f64; JOINTS];
+    type Rule = fn(ported::Told<Set>, &dyn Fn() -> ported::Told<Set>) -> ported::Told<Set>;
+
+    fn leaves(locked: &ported::Told<Set>) -> bool {
+        locked
+            .as_ref()
+            .is_err_and(|words| words.contains(" leaves axis "))
+    }
+
+    fn far(set: &Set) -> bool {
+        set[3..].iter().any(|angle| angle.abs() > 36_000.0)
+    }
+
+    /// Compares what an export with another rule inside the cone would tell, and gives how often that was noticed.
+    fn noticed_rule(rule: Rule) -> u64 {
+        let mut random = Random::new(7);
+        let mut ways = Ways::default();
+        for _ in 0..3000 {
+            let path = at_stops(&mut random);
+            let chain = reading::chain(&path.chain).expect("a chain that was made");
+            let setup = ported::setup(&chain);
+            let answer = along_by(&path, |poses| {
+                ported::solve_by(&setup, poses, &path.start, path.cone, rule)
+            });
+            ways.hold(&path, &telling(&path, &answer));
+        }
+        ways.differences()
+    }
+
+    /// The right rule, and wrong ones.
+    const RIGHT: Rule = |locked, exact| match exact() {
+        Ok(set) if leaves(&locked) && !far(&set) => Ok(set),
+        _ => locked,
+    };
+    const RULES: [(&str, Rule); 5] = [
+        ("the lock, whatever it comes to", |locked, _| locked),
+        ("the exact rule's refusal handed on", |locked, exact| {
+            if leaves(&locked) { exact() } else { locked }
+        }),
+        (
+            "an exact angle past 36,000 taken",
+            |locked, exact| match exact() {
+                Ok(set) if leaves(&locked) => Ok(set),
+                _ => locked,
+            },
+        ),
+        (
+            "the exact rule for a locked angle past 36,000 too",
+            |locked, exact| match (&locked, exact()) {
+                (Ok(lock), Ok(set)) if far(lock) && !far(&set) => Ok(set),
+                (Err(_), Ok(set)) if leaves(&locked) && !far(&set) => Ok(set),
+                _ => locked,
+            },
+        ),
+        ("the exact rule first", |locked, exact| match exact() {
+            Ok(set) if !far(&set) => Ok(set),
+            _ => locked,
+        }),
+    ];
+
+    #[test]
+    fn every_wrong_rule_is_noticed() {
+        assert_eq!(noticed_rule(RIGHT), 0);
+        for (words, rule) in RULES {
+            assert!(noticed_rule(rule) > 0, "{words}");
+        }
+    }
 
     #[test]
     fn every_fault_is_noticed() {

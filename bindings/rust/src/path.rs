@@ -112,7 +112,8 @@ pub fn given_indices(given: &[Joints], divided: &[Joints]) -> Vec<usize> {
 }
 
 /// The joints of every pose, each continuous with the one before it. Inside the cone about the singular direction, in degrees
-/// above 0 and at most 10, the rotary on that direction keeps its angle.
+/// above 0 and at most 10, the rotary on that direction keeps its angle; where a rotary would leave its limits so, the exact
+/// solution is taken.
 ///
 /// ```
 /// use maztubel::{Carrier, Chain, Joints, Pose, Rotary, Start, solve_path};
