@@ -13,6 +13,7 @@ use crate::reading;
 use crate::remarkable::{long, remarkable};
 use crate::rust::ported;
 use crate::solved::MOST_POSES;
+use crate::stops;
 use crate::ways::{MACHINES, kind};
 use crate::zigzags::needing;
 use std::process::ExitCode;
@@ -63,6 +64,9 @@ const SOLVING: [&str; 9] = [
     "25",
     "26",
 ];
+
+/// A path that is solved past a pose whose lock leaves a rotary's limits.
+const STOP: &str = "lock left, exact taken";
 
 /// How many poses are inserted where nothing is refused.
 const INSERTED: [&str; 5] = [
@@ -210,6 +214,12 @@ impl Insertions {
             let machine = kind(&chain);
             self.met.count(format!("{entry}, inserted on {machine}"));
         }
+        if let From::Start { start, cone } = &division.from {
+            let setup = ported::setup(&chain);
+            let (_, stops) = stops::with_stops(&setup, &division.poses, start, *cone);
+            let what = format!("{entry}, {STOP}");
+            self.met.count_if(&what, !stops.is_empty());
+        }
         if division.given() == MOST_POSES && divided.inserted > 1000 {
             self.met.count(format!("{entry}, {LONG}"));
         }
@@ -309,6 +319,9 @@ fn all(fewest: u64) -> Vec<(String, u64)> {
         );
         let machines = MACHINES.map(|machine| format!("{entry}, inserted on {machine}"));
         all.extend(machines.map(|what| (what, fewest)));
+        if entry == BOTH {
+            all.push((format!("{entry}, {STOP}"), fewest));
+        }
         let once = [LONG].into_iter().chain(NEEDED);
         all.extend(once.map(|what| (format!("{entry}, {what}"), 1)));
     }
