@@ -73,14 +73,14 @@ impl Kinematics {
         Ok(out)
     }
 
-    /// Of a pose in the cone, on a chain without limits: the lock's angles, and those of the exact solutions, the closest first.
+    /// Of a pose in the cone, on a chain without limits: the lock's angles, and those of the exact solutions, if any, the closest first.
     pub(crate) fn lock_and_exact(&self, pose: &ToolPose, previous: [f64; 2], cone_deg: f64) -> Option<([f64; 2], Vec<[f64; 2]>)> {
         let frame = singular_frame(self)?;
         if !in_singular_cone(pose.axis, frame.direction, cone_deg) {
             return None;
         }
         let locked = cone_solution(self, 0, pose, frame, previous, cone_deg).ok()?;
-        Some((locked.angles, self.closest_first(pose, previous)?))
+        Some((locked.angles, self.closest_first(pose, previous).unwrap_or_default()))
     }
 
     fn closest_first(&self, pose: &ToolPose, previous: [f64; 2]) -> Option<Vec<[f64; 2]>> {

@@ -2,10 +2,10 @@
 //! border of the reach and a tolerance beside it, by quarters and half turns, and around again and again.
 
 use crate::angles::{moved, signed, within};
-use crate::chains::{Chain, direction, usable_axis};
+use crate::chains::{Chain, Rotary, direction, usable_axis};
 use crate::floats::power_of_two;
 use crate::joints::{MOST_ANGLE, sound_joints};
-use crate::lean::{Lean, Vector, cross, scaled, sum, unit};
+use crate::lean::{Lean, Vector, cross, dot, scaled, sum, unit};
 use crate::machines::{border, equation, machine, off_spindle, square_to, turned, usual};
 use crate::numbers::served;
 use crate::paths::{JOINTS, MOST_TIP, POSE, Path};
@@ -335,9 +335,25 @@ pub fn straying(random: &mut Random) -> Path {
 
 /// Poses in the cone, with limits that the lock of one leaves, or just keeps.
 pub fn at_stops(random: &mut Random) -> Path {
-    let mut chain = with_pole(random);
+    let leans = random.below(5) == 0;
+    let mut chain = match leans {
+        true => off_spindle(random),
+        false => with_pole(random),
+    };
     let mut drawing = Drawing::new(chain, random);
-    drawing.cone = random.one_of(&[10.0, 5.0, 1.0, 0.05, drawing.cone]);
+    drawing.cone = match leans {
+        true => random.one_of(&[1e-4, 1e-3, 0.01, 0.03, 0.05, 0.079]),
+        false => random.one_of(&[10.0, 5.0, 1.0, 0.05, drawing.cone]),
+    };
+    let along = |rotary: Rotary| dot(unit(rotary.axis), unit(chain.spindle)).abs();
+    let [first, second] = chain.rotaries;
+    let primary = if along(first) < along(second) {
+        second
+    } else {
+        first
+    };
+    drawing.pole = unit(primary.axis);
+    drawing.side = square_to(drawing.pole);
     let mut path = drawing.path(0, random);
     let count = random.one_of(&[1, 1, 2, 3, 4]);
     for _ in 0..count {
@@ -363,9 +379,8 @@ pub fn at_stops(random: &mut Random) -> Path {
 /// A machine with a singular direction, and no limits.
 fn with_pole(random: &mut Random) -> Chain {
     loop {
-        let mut chain = match random.below(4) {
+        let mut chain = match random.below(3) {
             0 => usual(random),
-            1 => off_spindle(random),
             _ => machine(random),
         };
         for rotary in &mut chain.rotaries {

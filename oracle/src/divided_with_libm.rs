@@ -144,13 +144,13 @@ fn divided(rust: &FiveAxisSetup, division: &Division) -> untouched::Told<[Vec<f6
     match &division.from {
         From::Joints(joints) => untouched::subdivide_path(rust, poses, joints, *tolerances),
         From::Start { start, cone } => {
-            let joints = stops::with_libm(rust, poses, start, *cone)?;
-            untouched::subdivide_path(rust, poses, &joints, *tolerances)
+            let (joints, _) = stops::with_libm(rust, poses, start, *cone);
+            untouched::subdivide_path(rust, poses, &joints?, *tolerances)
         }
     }
 }
 
-/// On a usual machine, near, and where it is solved away from the poles and from the cone's border.
+/// On a usual machine, near, and where it is solved away from the poles, from the cone's border and from the stops in the cone.
 fn usual_division(
     rust: &FiveAxisSetup,
     division: &Division,
@@ -170,7 +170,15 @@ fn usual_division(
     let near = |numbers: &[f64], most: f64| numbers.iter().all(|x| x.abs() <= most);
     let mut poses = division.poses.chunks(POSE);
     let mut sets = divided.joints.chunks(JOINTS);
+    let stopped = match &division.from {
+        From::Joints(_) => false,
+        From::Start { start, cone } => {
+            let (_, stops) = stops::with_libm(rust, &division.poses, start, *cone);
+            !stops.is_empty()
+        }
+    };
     usual(chain)
+        && !stopped
         && poses.all(|pose| near(&pose[..3], USUAL_LENGTH) && clear(pose))
         && sets.all(|set| near(&set[..3], USUAL_LENGTH) && near(&set[3..], USUAL_ANGLE))
 }

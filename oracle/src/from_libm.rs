@@ -13,7 +13,8 @@ use crate::stops;
 /// Pivots and tips up to this many mm are those of a usual machine.
 pub(crate) const USUAL_LENGTH: f64 = 1000.0;
 
-/// Poses at least this many degrees from a pole are usual, on a path of which none is as near as this to the cone's border.
+/// Poses at least this many degrees from a pole are usual, on a path of which none is as near as this to the cone's border, and on
+/// which no lock leaves its limits: the exact solution beside a pole is as uncertain in the cone as outside, and is kept from there.
 pub(crate) const USUAL_CLEARANCE: f64 = 0.1;
 pub(crate) const OFF_BORDER: f64 = 1e-6;
 
@@ -36,7 +37,8 @@ struct Measured {
 
 impl FromLibm {
     /// Of a path that comes to its first pose. What the Rust has no number for (17 and 26) is left out.
-    pub fn see(&mut self, path: &Path, chain: &Chain, answer: &Answer) {
+    /// `stopped`: a lock leaves a rotary's limits on it.
+    pub fn see(&mut self, path: &Path, chain: &Chain, answer: &Answer, stopped: bool) {
         if answer
             .as_ref()
             .is_err_and(|refusal| matches!(refusal.number, 17 | 26))
@@ -45,9 +47,10 @@ impl FromLibm {
         }
         self.paths += 1;
         let rust = untouched::setup(chain);
-        let libms = stops::with_libm(&rust, &path.poses, &path.start, path.cone);
+        let (libms, stops) = stops::with_libm(&rust, &path.poses, &path.start, path.cone);
+        let stopped = stopped || !stops.is_empty();
         match (answer, libms) {
-            (Ok(joints), Ok(libms)) => self.measure(path, chain, joints, &libms),
+            (Ok(joints), Ok(libms)) => self.measure(path, chain, [joints, &libms], stopped),
             (Err(refusal), Err(words)) => {
                 let pose = pose_in(&words);
                 let told = (refusal.number, refusal.letter, refusal.at as usize);
@@ -58,14 +61,15 @@ impl FromLibm {
         }
     }
 
-    fn measure(&mut self, path: &Path, chain: &Chain, joints: &[f64], libms: &[f64]) {
+    fn measure(&mut self, path: &Path, chain: &Chain, both: [&[f64]; 2], stopped: bool) {
         let rust = untouched::setup(chain);
         let clearance = |pose: &[f64]| rust.kinematics.clearance(untouched::tool_pose(pose).axis);
         let off_border = |pose: &[f64]| {
             clearance(pose).is_some_and(|degrees| (degrees - path.cone).abs() >= OFF_BORDER)
         };
-        let usual_path = usual(chain) && path.poses.chunks(POSE).all(off_border);
-        let sets = joints.chunks(JOINTS).zip(libms.chunks(JOINTS));
+        let usual_path = usual(chain) && !stopped && path.poses.chunks(POSE).all(off_border);
+        let [joints, libms] = both.map(|sets| sets.chunks(JOINTS));
+        let sets = joints.zip(libms);
         for (pose, (set, libms)) in path.poses.chunks(POSE).zip(sets) {
             let one = Measured::of(set, libms);
             if one.angle >= 1.0 {

@@ -3,7 +3,7 @@
 
 use crate::angles::signed;
 use crate::chains::{Chain, bad_axis, chain_bytes, slot};
-use crate::courses::{Drawing, at_stops, close_together, square_apart, straying};
+use crate::courses::{Drawing, close_together, square_apart, straying};
 use crate::joints::joints;
 use crate::machines::{machine, usual};
 use crate::numbers::{not_finite, refused};
@@ -37,7 +37,6 @@ impl Path {
             0 => square_apart(random),
             1 => close_together(random),
             2 => straying(random),
-            3 => at_stops(random),
             _ => {
                 let count = length(random);
                 Path::of_course(machine(random), count, random)
@@ -172,7 +171,8 @@ impl Path {
         }
     }
 
-    /// The angles before a pose in the cone, those of its lock, and those of its exact solutions, where it has any.
+    /// The angles before a pose in the cone, those of its lock, and those of its exact solutions, or angles beside the lock's where it
+    /// has none.
     fn solutions_in_cone(
         &self,
         chain: &Chain,
@@ -188,7 +188,11 @@ impl Path {
         };
         let pose = ported::tool_pose(&self.poses[POSE * at..]);
         let solutions = rust.kinematics.lock_and_exact(&pose, previous, self.cone);
-        let (lock, exact) = solutions.filter(|(_, exact)| !exact.is_empty())?;
+        let (lock, exact) = solutions?;
+        let exact = match exact.is_empty() {
+            true => vec![lock.map(|angle| angle + 1.0)],
+            false => exact,
+        };
         Some((previous, lock, exact))
     }
 

@@ -2,6 +2,7 @@
 
 use crate::calls::{self, GUARD, LENT};
 use crate::cases::{self, Case};
+use crate::courses::at_stops;
 use crate::divided;
 use crate::divisions::{Division, From, Rooms, spaces};
 use crate::inverse_calls::{self, LENT_COUNT};
@@ -86,7 +87,10 @@ pub fn of_inverse(entry: inverse_cases::Entry, random: &mut Random) -> Option<Re
 
 /// Mostly of some poses: the first of a path follows no other.
 pub fn of_path(random: &mut Random) -> Option<Replayed> {
-    let path = Path::drawn(random);
+    let path = match random.below(8) {
+        0 => at_stops(random),
+        _ => Path::drawn(random),
+    };
     let alone = path.poses.len() <= POSE;
     if !few(&path.poses) || (alone && random.below(8) > 0) {
         return None;

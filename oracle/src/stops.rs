@@ -69,11 +69,17 @@ pub fn with_stops(
 }
 
 /// The same with libm.
-pub fn with_libm(setup: &WithLibm, poses: &[f64], start: &[f64], cone: f64) -> Told<Vec<f64>> {
+pub fn with_libm(
+    setup: &WithLibm,
+    poses: &[f64],
+    start: &[f64],
+    cone: f64,
+) -> (Told<Vec<f64>>, Vec<Stop>) {
     let mut stops = Vec::new();
-    untouched::solve_by(setup, poses, start, cone, |locked, exact| {
+    let joints = untouched::solve_by(setup, poses, start, cone, |locked, exact| {
         rule(locked, exact, &mut stops)
-    })
+    });
+    (joints, stops)
 }
 
 fn rule(locked: Told<Set>, exact: &dyn Fn() -> Told<Set>, stops: &mut Vec<Stop>) -> Told<Set> {

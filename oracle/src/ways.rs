@@ -128,7 +128,8 @@ impl Ways {
     pub fn compare_drawn(&mut self, paths: u64, random: &mut Random) {
         for _ in 0..paths {
             self.compare(&Path::drawn(random));
-            self.compare(&at_stops(random));
+            let beside = at_stops(random);
+            self.hold(&beside, &ask(&beside));
         }
     }
 
@@ -147,12 +148,17 @@ impl Ways {
         self.compare(&path);
     }
 
-    /// Calls the export, and holds what it tells to what it must tell.
+    /// Calls the export, holds what it tells to what it must tell, and that to what libm gives. At a stop libm is not asked: which
+    /// side of it an angle falls is decided by the last place there.
     pub fn compare(&mut self, path: &Path) {
-        self.hold(path, &ask(path));
+        if let Some((answer, stopped)) = self.hold(path, &ask(path)) {
+            let chain = reading::chain(&path.chain).expect("a chain whose poses are looked at");
+            self.from_libm.see(path, &chain, &answer, stopped);
+        }
     }
 
-    pub fn hold(&mut self, path: &Path, told: &Told) {
+    /// What was told as it must be of a path that comes to its poses, and whether a lock leaves a rotary's limits there.
+    pub fn hold(&mut self, path: &Path, told: &Told) -> Option<(Answer, bool)> {
         let answer = expected(path);
         let must = telling(path, &answer);
         self.calls += 1;
@@ -160,7 +166,7 @@ impl Ways {
         let all_finite = answer.iter().flatten().all(|x| x.is_finite());
         if *told != must || !all_finite {
             self.differences.note(|| example(path, told));
-            return;
+            return None;
         }
         match &answer {
             Ok(joints) => {
@@ -168,12 +174,15 @@ impl Ways {
                 self.look(path, joints);
             }
             Err(refusal) if refusal.clears => self.look_at_refusal(path, refusal),
-            Err(refusal) if refusal.number == 30 => return self.look_at_parallel(path),
-            Err(_) => return,
+            Err(refusal) => {
+                if refusal.number == 30 {
+                    self.look_at_parallel(path);
+                }
+                return None;
+            }
         }
-        let chain = reading::chain(&path.chain).expect("a chain whose poses are looked at");
-        self.look_at_stops(path, &chain, &answer);
-        self.from_libm.see(path, &chain, &answer);
+        let stopped = self.look_at_stops(path, &answer);
+        Some((answer, stopped))
     }
 
     /// At a path that is served.
@@ -219,9 +228,10 @@ impl Ways {
         }
     }
 
-    /// At the poses that were come to, of which a lock leaves the limits.
-    fn look_at_stops(&mut self, path: &Path, chain: &Chain, answer: &Answer) {
-        let setup = ported::setup(chain);
+    /// At the poses that were come to and whose lock leaves a rotary's limits. Whether there are any.
+    fn look_at_stops(&mut self, path: &Path, answer: &Answer) -> bool {
+        let chain = reading::chain(&path.chain).expect("a chain whose poses are looked at");
+        let setup = ported::setup(&chain);
         let (_, mut stops) = stops::with_stops(&setup, &path.poses, &path.start, path.cone);
         if let Err(refusal) = answer {
             stops.retain(|stop| pose_in(&stop.lock) as u64 <= refusal.at);
@@ -237,9 +247,10 @@ impl Ways {
         for stop in &stops {
             if let Some(what) = refused_at(stop) {
                 self.met.count(STOPS[what]);
-                self.met.count(format!("{}, {}", CONE[3], kind(chain)));
+                self.met.count(format!("{}, {}", CONE[3], kind(&chain)));
             }
         }
+        !stops.is_empty()
     }
 
     /// At a pose that is refused.
