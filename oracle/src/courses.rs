@@ -2,7 +2,7 @@
 //! border of the reach and a tolerance beside it, by quarters and half turns, and around again and again.
 
 use crate::angles::{moved, signed, within};
-use crate::chains::{Chain, Rotary, direction, usable_axis};
+use crate::chains::{Chain, direction, usable_axis};
 use crate::floats::power_of_two;
 use crate::joints::{MOST_ANGLE, sound_joints};
 use crate::lean::{Lean, Vector, cross, dot, scaled, sum, unit};
@@ -218,6 +218,19 @@ impl Drawing {
         }
     }
 
+    /// Mostly inside the cone about either pole, else at its border, at a pole or off it.
+    fn axis_in_cone(&mut self, random: &mut Random) -> Vector {
+        let cone = self.cone;
+        let pole = random.one_of(&[0.0, 0.0, 180.0]);
+        match random.below(12) {
+            0..=7 => self.tilted(pole + within(cone, random), within(180.0, random)),
+            8 => self.axis(Style::Border(90.0), random),
+            9 => self.axis(Style::Sweep([cone / 4.0, 17.0]), random),
+            10 => self.axis(Style::Pole, random),
+            _ => self.axis(Style::Walk(45.0), random),
+        }
+    }
+
     fn tangent(&mut self, random: &mut Random) -> Vector {
         let (round, far) = (within(180.0, random), random.below(2) == 0);
         let [first, _] = equation(&self.chain).map(|slot| unit(self.chain.rotaries[slot].axis));
@@ -333,7 +346,8 @@ pub fn straying(random: &mut Random) -> Path {
     path
 }
 
-/// Poses in the cone, with limits that the lock of one leaves, or just keeps.
+/// Poses in the cone, with limits that the lock of one leaves, or just keeps; or without limits, and wound so far that the lock of
+/// one may go past what is served.
 pub fn at_stops(random: &mut Random) -> Path {
     let leans = random.below(5) == 0;
     let mut chain = match leans {
@@ -345,35 +359,36 @@ pub fn at_stops(random: &mut Random) -> Path {
         true => random.one_of(&[1e-4, 1e-3, 0.01, 0.03, 0.05, 0.079]),
         false => random.one_of(&[10.0, 5.0, 1.0, 0.05, drawing.cone]),
     };
-    let along = |rotary: Rotary| dot(unit(rotary.axis), unit(chain.spindle)).abs();
-    let [first, second] = chain.rotaries;
-    let primary = if along(first) < along(second) {
-        second
-    } else {
-        first
-    };
-    drawing.pole = unit(primary.axis);
+    let primary = primary(&chain);
+    drawing.pole = unit(chain.rotaries[primary].axis);
     drawing.side = square_to(drawing.pole);
     let mut path = drawing.path(0, random);
     let count = random.one_of(&[1, 1, 2, 3, 4]);
     for _ in 0..count {
-        let (cone, round) = (drawing.cone, within(180.0, random));
-        let pole = random.one_of(&[0.0, 0.0, 180.0]);
-        let axis = match random.below(12) {
-            0..=7 => drawing.tilted(pole + within(cone, random), round),
-            8 => drawing.axis(Style::Border(90.0), random),
-            9 => drawing.axis(Style::Sweep([cone / 4.0, 17.0]), random),
-            10 => drawing.axis(Style::Pole, random),
-            _ => drawing.axis(Style::Walk(45.0), random),
-        };
         path.poses
             .extend([(); 3].map(|()| served(MOST_TIP, 1000.0, random)));
-        path.poses.extend(axis);
+        path.poses.extend(drawing.axis_in_cone(random));
     }
     path.room = JOINTS * count;
-    path.limits_to_lock(&mut chain, random);
+    if random.below(8) == 0 {
+        path.start = vec![0.0; JOINTS];
+        path.start[3 + primary] = within(180.0, random);
+        let wound = MOST_ANGLE - within(90.0, random).abs();
+        path.start[3 + (1 - primary)] = signed(wound, random);
+    } else {
+        path.limits_to_lock(&mut chain, random);
+    }
     path.chain = chain.bytes();
     path
+}
+
+/// The slot of the rotary that is nearer to the spindle, of a chain of two.
+fn primary(chain: &Chain) -> usize {
+    let spindle = unit(chain.spindle);
+    let along = chain
+        .rotaries
+        .map(|rotary| dot(unit(rotary.axis), spindle).abs());
+    usize::from(along[0] < along[1])
 }
 
 /// A machine with a singular direction, and no limits.
