@@ -1,5 +1,6 @@
 /* Two builds of the library in one process: each row of the table is one entry over the same inputs, in turns, the best
- * round of many, and the number of answers that are not the same bits in both. `run` makes the four shared libraries. */
+ * round of many, and the number of answers that are not the same bits in both. `run` makes the four shared libraries,
+ * `repeat` runs this many times. */
 #define _POSIX_C_SOURCE 200809L
 #include <dlfcn.h>
 #include <math.h>
@@ -404,16 +405,19 @@ static void bits(const Build builds[2]) {
     printf("sine, cosine and their pair: %d random arguments, %zu differ\n", 3 * RANDOM_BITS, differ);
 }
 
+/* FOLDER FIRST SECOND: the two sides in the order in which they are opened. With a fourth word no functions and no bits. */
 int main(int count, char **words) {
     static Input in;
-    if (count != 2) return fprintf(stderr, "beside FOLDER: use tools/beside/run\n"), 2;
-    Build builds[2] = {build(words[1], "before"), build(words[1], "after")};
+    if (count < 4) return fprintf(stderr, "beside FOLDER FIRST SECOND: use tools/beside/run\n"), 2;
+    Build builds[2] = {build(words[1], words[2]), build(words[1], words[3])};
+    int whole = count == 4;
     lay_path(&in);
-    printf("| | before, ns | after, ns | after / before | numbers that differ |\n|---|---|---|---|---|\n");
-    rows_of_functions(builds, &in);
+    printf("| | %s, ns | %s, ns | %s / %s | numbers that differ |\n|---|---|---|---|---|\n", words[2], words[3],
+           words[3], words[2]);
+    if (whole) rows_of_functions(builds, &in);
     rows_of_machines(builds, &in);
     rows_of_paths(builds, &in);
-    bits(builds);
+    if (whole) bits(builds);
     if (refusals) printf("%d rows were refused\n", refusals);
     return refusals != 0;
 }
