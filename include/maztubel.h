@@ -288,7 +288,8 @@ uint32_t maztubel_choose(const uint8_t *chain, size_t chain_length, const double
  *   name   the chain's name, 1 to 256 bytes; no other function takes one
  *
  * Chain and model are read whole before any check: 29 with an offset in the chain's bytes, then 29 with one in the
- * model's. */
+ * model's. The answer does not say in which: call maztubel_check_chain with the same chain. If that returns 29 too,
+ * the offset is in the chain's bytes, else in the model's. */
 
 /* Checks a chain with its model: returns 0 if both can be served.
  * Refusals:

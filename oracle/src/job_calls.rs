@@ -3,37 +3,27 @@
 //! space (28).
 
 use crate::calls::{GUARD, LENT, LENT_AT, LENT_LETTER, Told};
-use crate::chains::{Chain, push_numbers};
 use crate::maztubel;
 use crate::paths::POSE;
 use job::{Breach, Job, POSE as POSE_BYTES};
-use std::sync::OnceLock;
 
 /// What the reader of tools/job says.
 pub type Read = Result<Job, Breach>;
 
-/// A nan of any digits is read as the one nan, whose bits are the machine's: those that the reader gives for some nan.
-pub fn one_nan() -> u64 {
-    static BITS: OnceLock<u64> = OnceLock::new();
-    *BITS.get_or_init(|| {
-        let mut bytes = Chain {
-            count: 1,
-            ..Chain::default()
-        }
-        .bytes();
-        bytes[8] = b'A';
-        bytes.extend([0; 16]);
-        push_numbers(&mut bytes, &[f64::NAN; 3]);
-        let told = ask_read(&bytes);
-        let bits = told.numbers[8];
-        assert!(told.number == 0 && f64::from_bits(bits).is_nan(), "{told}");
-        bits
-    })
-}
+/// The definition's one nan, as its `toBits` writes it. It has no sign and no digits, so that any nan may stand for it in memory.
+const ONE_NAN: u64 = 0x7FF8_0000_0000_0000;
 
 /// The bits of a number that was read.
 fn as_read(x: f64) -> u64 {
-    if x.is_nan() { one_nan() } else { x.to_bits() }
+    if x.is_nan() { ONE_NAN } else { x.to_bits() }
+}
+
+/// The bits of a number that was lent, which no call leaves as they were but where it keeps it.
+fn as_left(x: f64) -> u64 {
+    match x.to_bits() {
+        LENT => LENT,
+        _ => as_read(x),
+    }
 }
 
 /// Calls the reader. The lent numbers are the two places and the count, then the cone and the two tolerances, each with a number
@@ -54,7 +44,7 @@ pub fn ask_read(bytes: &[u8]) -> Told {
         number,
         at,
         letter: [LENT_LETTER; 3],
-        numbers: [places, numbers.map(f64::to_bits)].concat(),
+        numbers: [places, numbers.map(as_left)].concat(),
     }
 }
 
@@ -94,7 +84,7 @@ pub fn ask_poses(bytes: &[u8], room: usize) -> Told {
         number,
         at,
         letter: [LENT_LETTER; 3],
-        numbers: numbers.iter().map(|x| x.to_bits()).collect(),
+        numbers: numbers.into_iter().map(as_left).collect(),
     }
 }
 

@@ -100,6 +100,37 @@ fn turned(degrees: f64) -> Division {
     alone(chain(TABLE, 0.0), &still, &joints, [0.5, 0.5])
 }
 
+/// A quarter turn of a table across the spindle, held to a millionth of a micrometre: it needs more insertions than may be. Solved
+/// first, and given its joints.
+pub fn too_many() -> [Division; 2] {
+    let table = Rotary {
+        letter: b'B',
+        carrier: TABLE,
+        axis: [0.0, 1.0, 0.0],
+        ..Rotary::default()
+    };
+    let chain = Chain {
+        count: 1,
+        rotaries: [table, Rotary::default()],
+        spindle: [0.0, 0.0, 1.0],
+        ..Chain::default()
+    };
+    let poses = vec![
+        20.0, 5.0, 10.0, 0.0, 0.0, 1.0, -10.0, 5.0, 20.0, -1.0, 0.0, 0.0,
+    ];
+    let joints = vec![20.0, 5.0, 10.0, 0.0, 0.0, 20.0, 5.0, 10.0, 90.0, 0.0];
+    let start = From::Start {
+        start: Vec::new(),
+        cone: 1.0,
+    };
+    [start, From::Joints(joints)].map(|from| Division {
+        chain: chain.bytes(),
+        poses: poses.clone(),
+        from,
+        tolerances: [1e-9, 1.0],
+    })
+}
+
 /// A number of the second record that is not finite, or at a limit or beyond it, in each place.
 fn slot_by_slot() -> Vec<Division> {
     let mut all = Vec::new();

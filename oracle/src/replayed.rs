@@ -7,10 +7,14 @@ use std::fmt::Write;
 pub const FILLED: f64 = 7.25;
 pub const FILLED_COUNT: u64 = 7;
 
-/// What the program has room for: bytes of a case, numbers of a part, and numbers that it lends.
+/// What the program has room for: bytes of a case and numbers of a part.
 const MOST_BYTES: usize = 65_600;
 const MOST_NUMBERS: usize = 128;
+
+/// How many numbers a case is lent at most, that lines stay short; and with 27, which wants space for 10,000 poses more than the two
+/// that are given, as many as the program has. They are +0.0 then, and a line counts them.
 const MOST_ROOMS: [usize; 2] = [256, 128];
+const ROOMS_OF_27: [usize; 2] = [60_012, 50_010];
 
 /// Every entry, by its number in a case.
 pub const ENTRIES: [&str; 17] = [
@@ -45,9 +49,13 @@ pub struct Given<'a> {
 }
 
 impl Given<'_> {
-    fn fits(&self) -> bool {
+    fn fits(&self, number: u32) -> bool {
         let fit = |numbers: &&[f64]| numbers.len() <= MOST_NUMBERS;
-        let [first, second] = [0, 1].map(|i| self.rooms[i] <= MOST_ROOMS[i]);
+        let most = match number {
+            27 => ROOMS_OF_27,
+            _ => MOST_ROOMS,
+        };
+        let [first, second] = [0, 1].map(|i| self.rooms[i] <= most[i]);
         self.numbers.iter().all(fit) && first && second
     }
 }
@@ -80,7 +88,7 @@ impl Replayed {
         case.extend(given.bytes);
         let length = u32::try_from(case.len()).ok()?.to_le_bytes();
         let bytes = [&length[..], &case].concat();
-        let fits = given.fits() && case.len() <= MOST_BYTES;
+        let fits = given.fits(number) && case.len() <= MOST_BYTES;
         let line = text + "\n";
         fits.then_some(Replayed {
             number,

@@ -3,14 +3,15 @@
 use crate::calls::{self, GUARD, LENT};
 use crate::cases::{self, Case};
 use crate::courses::at_stops;
-use crate::divided;
+use crate::divided::{self, Answer, MOST_INSERTED};
 use crate::divisions::{Division, From, Rooms, spaces};
 use crate::inverse_calls::{self, LENT_COUNT};
 use crate::inverse_cases;
 use crate::inverse_reference;
-use crate::paths::{POSE, Path};
+use crate::paths::{JOINTS, POSE, Path};
 use crate::random::Random;
 use crate::reference;
+use crate::remarkable::too_many;
 use crate::replayed::{FILLED, FILLED_COUNT, Given, Line, Replayed};
 use crate::solved;
 
@@ -118,7 +119,7 @@ pub fn of_both(random: &mut Random) -> Option<Replayed> {
     of_division("solve_and_divide", &both, random)
 }
 
-/// With one of the spaces that it is to be tried with. Mostly something is inserted.
+/// With one of the spaces that it is to be tried with. Mostly something is inserted; 27 has a case of its own.
 fn of_division(entry: &str, division: &Division, random: &mut Random) -> Option<Replayed> {
     if !few(&division.poses) {
         return None;
@@ -130,6 +131,31 @@ fn of_division(entry: &str, division: &Division, random: &mut Random) -> Option<
     if answer.is_ok_and(|divided| divided.inserted == 0) && random.below(16) > 0 {
         return None;
     }
+    if answer.is_err_and(|refusal| refusal.number == 27) {
+        return None;
+    }
+    of_rooms(entry, division, answer, rooms)
+}
+
+/// One that needs more insertions than may be, with space for as many as may be.
+pub fn of_too_many(entry: &str) -> Option<Replayed> {
+    let [both, alone] = too_many();
+    let division = if entry == "subdivide_path" {
+        alone
+    } else {
+        both
+    };
+    let records = division.given() + MOST_INSERTED;
+    let rooms = [POSE * records, JOINTS * records];
+    of_rooms(
+        entry,
+        &division,
+        divided::expected(&division).with(rooms),
+        rooms,
+    )
+}
+
+fn of_rooms(entry: &str, division: &Division, answer: Answer, rooms: Rooms) -> Option<Replayed> {
     let told = divided::telling(answer, rooms);
     let [poses, joints] = lent_twice(&told.told.numbers, rooms);
     let (at, letter) = (told.told.at[1], told.told.letter[1]);

@@ -1,7 +1,7 @@
-// Divides two neighbouring pairs of a path one after the other, with one record lent for each, and writes what comes of it: how many poses were inserted so far, and the numbers of the joint sets in the output, with the
-// +0.0 behind them.
+// Divides two neighbouring pairs of a path one after the other, with one record lent for each, and writes what comes of it: how
+// many poses were inserted so far, and the numbers of the poses and of the joint sets in the outputs, with the +0.0 behind them.
 //
-// What it must write, `stdout`, was computed by the Rust. To make it again, in oracle/:
+// What it must write, `stdout`, was computed by the Rust with this library's turns. To make it again, in oracle/:
 //     cargo run --release --bin filled > ../crates/filled/stdout
 ghost use mathlib.Core.Path.{_≡_};
 ghost use Rattle.machine.specs.Filling.{filling, after};
@@ -84,7 +84,8 @@ fn one_pair(job: Subdiv, p: Prepared, left: Item, right: Item) -> Subdiv {
     text::write(b"inserted");
     text::write_number(after.inserted);
     text::write(b"\n");
-    write_joints(&joints);
+    write_rows(&poses, 6);
+    write_rows(&joints, 5);
     after
 }
 
@@ -103,14 +104,17 @@ fn filled(
     job
 }
 
-// Five numbers to a line.
-fn write_joints(joints: &[f64]) {
+// So many numbers to a line.
+fn write_rows(numbers: &[f64], width: usize) {
+    if width == 0 {
+        return;
+    }
     let mut i: usize = 0;
-    while i < joints.len() {
-        text::write_float(joints[i]);
-        if i % 5 == 4 {
+    while i < numbers.len() {
+        text::write_float(numbers[i]);
+        i += 1;
+        if i % width == 0 {
             text::write(b"\n");
         }
-        i += 1;
     }
 }

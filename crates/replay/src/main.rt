@@ -49,12 +49,12 @@ fn read_case(bytes: &mut [u8]) -> usize
     n
 }
 
-// What is lent holds 7.25 before the call.
+// What is lent holds 7.25 before the call. There is space for 10,000 poses more than two, with which a division can come to 27.
 fn replay(case: &[u8]) {
     let mut first = [0.0f64; 128];
     let mut second = [0.0f64; 128];
-    let mut lent = [7.25f64; 256];
-    let mut other = [7.25f64; 128];
+    let mut lent = [7.25f64; 60012];
+    let mut other = [7.25f64; 50010];
     let n = cases::numbers(cases::part(case, cases::FIRST), &mut first);
     let m = cases::numbers(cases::part(case, cases::SECOND), &mut second);
     let room = cases::room(case, cases::ROOM, &lent);

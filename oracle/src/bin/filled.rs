@@ -1,4 +1,4 @@
-//! Writes what crates/filled must write, from the Rust with libm:
+//! Writes what crates/filled must write, from the Rust with this library's turns:
 //!
 //!     cargo run --release --bin filled > ../crates/filled/stdout
 //!
@@ -6,11 +6,9 @@
 
 #[cfg(original)]
 fn main() {
-    use oracle::original::untouched::geom::Vec3;
-    use oracle::original::untouched::kinematics::*;
+    use oracle::original::ported::geom::Vec3;
+    use oracle::original::ported::kinematics::*;
 
-    /// The joint sets that crates/filled has space for.
-    const SPACE: usize = 24;
     let table = RotaryJoint {
         letter: 'B',
         carrier: Carrier::Table,
@@ -38,21 +36,32 @@ fn main() {
             .forward(&j, 0.0)
             .expect("a pose that is reached")
     });
+    let vector = |v: Vec3| [v.x(), v.y(), v.z()];
+    let of_pose = |pose: &ToolPose| [vector(pose.tip), vector(pose.axis)].concat();
+    let of_joints = |j: &Joints| [&vector(j.xyz)[..], &j.angles].concat();
     let mut inserted = 0;
     for i in 0..2 {
-        let (_, divided) =
+        let (poses, joints) =
             subdivide_path(&setup, "p", &poses[i..i + 2], &joints[i..i + 2], 0.05, 4.0)
                 .expect("a pair that is divided");
-        inserted += divided.len() - 2;
+        inserted += joints.len() - 2;
         println!("inserted {inserted:016X}");
-        let numbers = |j: &Joints| [j.xyz.x(), j.xyz.y(), j.xyz.z(), j.angles[0], j.angles[1]];
-        let unused = std::iter::repeat_n([0.0; 5], SPACE - divided.len());
-        for five in divided.iter().map(numbers).chain(unused) {
-            println!(
-                "{}",
-                five.map(|x| format!(" {:016X}", x.to_bits())).concat()
-            );
-        }
+        print_rows(poses.iter().map(of_pose), 6);
+        print_rows(joints.iter().map(of_joints), 5);
+    }
+}
+
+/// Each row on a line, and +0.0 in the lines behind them, up to the space that crates/filled has.
+#[cfg(original)]
+fn print_rows(rows: impl ExactSizeIterator<Item = Vec<f64>>, width: usize) {
+    const SPACE: usize = 24;
+    let unused = std::iter::repeat_n(vec![0.0; width], SPACE - rows.len());
+    for row in rows.chain(unused) {
+        let words: Vec<String> = row
+            .iter()
+            .map(|x| format!(" {:016X}", x.to_bits()))
+            .collect();
+        println!("{}", words.concat());
     }
 }
 

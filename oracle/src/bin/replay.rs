@@ -41,6 +41,9 @@ mod sample {
     /// 65 links are long.
     const TOO_MANY_LINKS: u32 = 10;
 
+    /// What is drawn seldom comes to 27, and is never short then.
+    const DIVIDES: [&str; 2] = ["subdivide_path", "solve_and_divide"];
+
     /// So many cases have each refusal's number, and the one of too many links.
     const OF_EACH: usize = 5;
     const OF_LONG: usize = 2;
@@ -213,7 +216,7 @@ mod sample {
         ]
     }
 
-    /// Every job of examples/jobs stands before what is drawn.
+    /// Every job of examples/jobs stands before what is drawn, and behind it, once for each call that divides, 27.
     pub fn write(folder: &Path) {
         let sums = Sums::default();
         let jobs = replayed_jobs::examples();
@@ -223,6 +226,11 @@ mod sample {
             if entry.name == "read_job" {
                 let examples = jobs.iter().filter_map(|job| replayed_jobs::of_reader(job));
                 cases.splice(0..0, examples);
+            }
+            if DIVIDES.contains(&entry.name) {
+                let case = replayed_calls::of_too_many(entry.name).expect("a short case");
+                assert_eq!(case.number, 27);
+                cases.push(case);
             }
             tell(entry.name, &cases);
             all.append(&mut cases);

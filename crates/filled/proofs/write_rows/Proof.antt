@@ -1,18 +1,18 @@
-use Prim.Native.Nat.{_-_, _≤_}
+use Prim.Native.Nat.{_-_, _<_, _≤_}
 use native.Mathlib.Omega.{arith}
 use borrow.Author.Needs.{needs}
 use lib.ListN.{length}
-use Rattle.filled.proofs.write_joints.Statement.{statement}
-use Rattle.filled.proofs.write_joints.Tie as tie
+use Rattle.filled.proofs.write_rows.Statement.{statement}
+use Rattle.filled.proofs.write_rows.Tie as tie
 
 abbrev Inv-loop : tie.InvT-loop
-Inv-loop joints i₀ t3 i = i ≤ length joints
+Inv-loop numbers width i₀ t3 i = (i ≤ length numbers) × (0 < width)
 
 abbrev μ-loop : tie.MeasureT-loop
-μ-loop joints i₀ t3 i = length joints - i
+μ-loop numbers width i₀ t3 i = length numbers - i
 
-pub write-joints-spec : {M : Type 1} → statement M
-write-joints-spec =
+pub write-rows-spec : {M : Type 1} → statement M
+write-rows-spec =
     tie.close
     (tie.spec
     Inv-loop
