@@ -1,4 +1,5 @@
 pub mod PriceGap
+pub mod Literals
 pub mod PriceSound
 pub mod Price
 pub mod PricePath

@@ -1,4 +1,5 @@
 pub mod SmallGap
+pub mod Literals
 pub mod FromTurns
 pub mod Insertion
 pub mod Picking

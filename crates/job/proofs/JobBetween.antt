@@ -95,10 +95,10 @@ module _ (a b : List ℕ) (from to : ℕ) (agree : Agree a b from to) where
   same-numbers (suc n) at p q = rw (same-number at p (omega arith), same-numbers n (at + 8) (omega arith) (omega arith))
 
 -- ---- a chain in such bytes: its records have at least 72 bytes
-more : (w count : ℕ) → 1 ≤ count → w ≤ w * count
+pub more : (w count : ℕ) → 1 ≤ count → w ≤ w * count
 more w (suc n) h = omega arith
 
-two : (w count : ℕ) → count ≡ 2 → w * count ≡ w + w
+pub two : (w count : ℕ) → count ≡ 2 → w * count ≡ w + w
 two w count e = rw e (omega arith)
 
 module _ (w : ℕ) (wide : 72 ≤ w) (a b : List ℕ) (p : Places) (count : ℕ) (some : 1 ≤ count) (agree : Agree a b (p .chain) (p .chain + chainLength w count)) where

@@ -1,6 +1,7 @@
 pub mod JobWithin
 pub mod Copying
 pub mod JobBetween
+pub mod JobChain
 pub mod Turns
 pub mod Surveying
 pub mod CableLaws

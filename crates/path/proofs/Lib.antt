@@ -1,4 +1,5 @@
 pub mod FarApart
+pub mod Literals
 pub mod FarFromPole
 pub mod Bounded
 pub mod Positions

@@ -1,24 +1,22 @@
 -- The laws of the four functions for the crates above, in words of `sineOf`, `cosineOf`, `arctangentOf` and `arccosineOf` alone.
 -- `T (fits binary64 x)` says that x is a double: it holds of every value that code has. Assumes nothing.
 use mathlib.Core.Path.{_≡_, refl, sym, ap, _∙_, subst}
-use mathlib.Core.Bool.{Bool, true, false, not, cond, true≢false}
+use mathlib.Core.Bool.{Bool, true, false, not, cond}
 use Prim.Native.Nat.{zero}
 use lib.Dec.{T}
 use lib.IntN.{pos}
 use lib.Ieee.{Float, nan, inf, fin, binary64, round, add, sub, mul, neg, ofBits, le, lt, eq, fits}
-use Rattle.float.proofs.Order.{neg-le, neg-neg}
 use Rattle.root.specs.Root.{root}
 use Rattle.trig.specs.Kernel.{plusZero, one}
 use lib.Ieee.Scale.{finite}
 use Rattle.float.specs.Helpers.{negative}
 use Rattle.trig.specs.Direction.{pi, Direction}
-use Rattle.trig.specs.Waves.{sineFloat, cosineFloat, most, served, sineOf, cosineOf, Sized, SineValue, CosineValue, SineAnswer, CosineAnswer}
+use Rattle.trig.specs.Waves.{sineFloat, cosineFloat, served, sineOf, cosineOf, Sized, SineValue, CosineValue, SineAnswer, CosineAnswer}
 use Rattle.trig.specs.Arctangent.{halfPi, piFloat, levelFloat, upperFloat, angleFloat, arctangentOf, ArctangentAnswer}
 use Rattle.trig.specs.Arccosine.{sineOfCosine, cosineRange, arccosineOf, ArccosineValue, ArccosineAnswer}
 use Rattle.trig.specs.declared.Answer.{Answer}
 use Rattle.trig.specs.declared.Answer.the-variants.{Value, OutOfRange}
 use Rattle.trig.proofs.Choices.{pick}
-use Rattle.trig.proofs.WaveSteps.{sine-odd-finite, cosine-even-finite}
 use Rattle.trig.proofs.WaveLaws as Waves
 use Rattle.trig.proofs.ArctangentLaws as Arctangent
 use Rattle.trig.proofs.ArccosineLaws as Arccosine
@@ -75,35 +73,9 @@ abbrev pub negatedAnswer : Answer → Answer
 negatedAnswer (Value y) = Value (neg y)
 negatedAnswer OutOfRange = OutOfRange
 
-served-even : (x : Float) → served (neg x) ≡ served x
-unfolding served
-served-even x = go (le (neg x) most) (le (neg most) (neg x)) (le x most) (le (neg most) x) (turned ∙ neg-le (neg most) x) (neg-le x most)
-  where
-    turned : le (neg x) most ≡ le (neg x) (neg (neg most))
-    turned = ap (λ (z : Float). le (neg x) z) (sym (neg-neg most))
-
-    go : (a b c d : Bool) → a ≡ d → b ≡ c → cond a b false ≡ cond c d false
-    go a b c d p q = ap (λ (z : Bool). cond z b false) p ∙ ap (λ (z : Bool). cond d z false) q ∙ turn d c
-      where
-        turn : (u v : Bool) → cond u v false ≡ cond v u false
-        turn true true = refl
-        turn true false = refl
-        turn false true = refl
-        turn false false = refl
-
-sine-float-odd : (x : Float) → served x ≡ true → sineFloat (neg x) ≡ neg (sineFloat x)
-sine-float-odd nan h = absurd (true≢false (sym (Waves.served-finite nan h)))
-sine-float-odd (inf s) h = absurd (true≢false (sym (Waves.served-finite (inf s) h)))
-sine-float-odd (fin s m e) h = sine-odd-finite s m e
-
-cosine-float-even : (x : Float) → served x ≡ true → cosineFloat (neg x) ≡ cosineFloat x
-cosine-float-even nan h = absurd (true≢false (sym (Waves.served-finite nan h)))
-cosine-float-even (inf s) h = absurd (true≢false (sym (Waves.served-finite (inf s) h)))
-cosine-float-even (fin s m e) h = cosine-even-finite s m e
-
 pub sine-odd : (x : Float) → sineOf (neg x) ≡ negatedAnswer (sineOf x)
 unfolding sineOf
-sine-odd x = ap (λ (b : Bool). cond b (Value (sineFloat (neg x))) OutOfRange) (served-even x) ∙ go (served x) (sine-float-odd x)
+sine-odd x = ap (λ (b : Bool). cond b (Value (sineFloat (neg x))) OutOfRange) (Waves.served-even x) ∙ go (served x) (Waves.sine-float-odd x)
   where
     go : (b : Bool) → (b ≡ true → sineFloat (neg x) ≡ neg (sineFloat x)) → cond b (Value (sineFloat (neg x))) OutOfRange ≡ negatedAnswer (cond b (Value (sineFloat x)) OutOfRange)
     go true h = ap Value (h refl)
@@ -111,7 +83,7 @@ sine-odd x = ap (λ (b : Bool). cond b (Value (sineFloat (neg x))) OutOfRange) (
 
 pub cosine-even : (x : Float) → cosineOf (neg x) ≡ cosineOf x
 unfolding cosineOf
-cosine-even x = ap (λ (b : Bool). cond b (Value (cosineFloat (neg x))) OutOfRange) (served-even x) ∙ go (served x) (cosine-float-even x)
+cosine-even x = ap (λ (b : Bool). cond b (Value (cosineFloat (neg x))) OutOfRange) (Waves.served-even x) ∙ go (served x) (Waves.cosine-float-even x)
   where
     go : (b : Bool) → (b ≡ true → cosineFloat (neg x) ≡ cosineFloat x) → cond b (Value (cosineFloat (neg x))) OutOfRange ≡ cond b (Value (cosineFloat x)) OutOfRange
     go true h = ap Value (h refl)

@@ -3,6 +3,8 @@
 -- Tests and tables.
 pub mod Choices
 pub mod Table
+-- The numbers in decimals.
+pub mod Literals
 -- S and C: the terms, Horner's form, and the slope.
 pub mod TaylorTerms
 pub mod HornerForm

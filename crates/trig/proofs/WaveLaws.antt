@@ -6,18 +6,19 @@ use native.Mathlib.Omega.{arith}
 use lib.Dec.{T, eqb}
 use lib.Ieee.{Float, nan, inf, fin, binary64, up, down, neg, ofBits, le, eq, fits}
 use lib.Ieee.Positive.{num as top}
+use Rattle.float.proofs.Order.{neg-le, neg-neg}
 use Rattle.trig.specs.Fraction.{Frac, Near}
 use Rattle.trig.specs.Angle.{sine, cosine}
 use Rattle.trig.specs.Kernel.{plusZero}
 use lib.Ieee.Scale.{finite}
-use Rattle.trig.specs.Waves.{sineFloat, cosineFloat, served, sineOf, cosineOf, paired, SineValue, CosineValue, SineAnswer, CosineAnswer, PairRight}
+use Rattle.trig.specs.Waves.{sineFloat, cosineFloat, most, served, sineOf, cosineOf, paired, SineValue, CosineValue, SineAnswer, CosineAnswer, PairRight}
 use Rattle.trig.specs.declared.Answer.{Answer}
 use Rattle.trig.specs.declared.Answer.the-variants.{Value, OutOfRange}
 use Rattle.trig.specs.declared.Pair.{Pair}
 use Rattle.trig.specs.declared.PairAnswer.the-variants.{Values, OutOfRange as NoPair}
 use Rattle.trig.proofs.Choices.{pick, drop, chosen}
 use Rattle.trig.proofs.WaveError.{sine-near, cosine-near, sine-sized, cosine-sized}
-use Rattle.trig.proofs.WaveSteps.{sine-is-zero, cosine-is-zero}
+use Rattle.trig.proofs.WaveSteps.{sine-is-zero, cosine-is-zero, sine-odd-finite, cosine-even-finite}
 
 near-finite : (h : ℕ) (y : Float) (f : Frac) → Near h y f → finite y ≡ true
 near-finite h nan f n = absurd n
@@ -49,16 +50,32 @@ zero-test (fin s m e) f z = go s (m * up e * 1) (0 * 1 * down e) (one-times (m *
     go true a b p q = subst (λ (x : ℕ). (eqb x b && (false || eqb x 0)) ≡ true) p (subst (λ (y : ℕ). (eqb 0 y && (false || eqb 0 0)) ≡ true) q refl)
     go false a b p q = subst (λ (x : ℕ). (eqb x b && (true || eqb x 0)) ≡ true) p (subst (λ (y : ℕ). (eqb 0 y && (true || eqb 0 0)) ≡ true) q refl)
 
-module _ (x : Float) (f : T (fits binary64 x)) (h : served x ≡ true) where
-  pub sine-value : SineValue x (sineFloat x)
-  sine-value =
-      let n = sine-near x f h in
-      record { near = n; isFinite = near-finite 50 (sineFloat x) (sine x) n; size = sine-sized x f h; zeros = λ z. sym (sine-is-zero x (zero-test x (served-finite x h) z)) }
+-- ---- the negated argument
+pub served-even : (x : Float) → served (neg x) ≡ served x
+unfolding served
+served-even x = go (le (neg x) most) (le (neg most) (neg x)) (le x most) (le (neg most) x) (turned ∙ neg-le (neg most) x) (neg-le x most)
+  where
+    turned : le (neg x) most ≡ le (neg x) (neg (neg most))
+    turned = ap (λ (z : Float). le (neg x) z) (sym (neg-neg most))
 
-  pub cosine-value : CosineValue x (cosineFloat x)
-  cosine-value =
-      let n = cosine-near x f h in
-      record { near = n; isFinite = near-finite 50 (cosineFloat x) (cosine x) n; size = cosine-sized x f h; zeros = λ z. sym (cosine-is-zero x (zero-test x (served-finite x h) z)) }
+    go : (a b c d : Bool) → a ≡ d → b ≡ c → cond a b false ≡ cond c d false
+    go a b c d p q = ap (λ (z : Bool). cond z b false) p ∙ ap (λ (z : Bool). cond d z false) q ∙ turn d c
+      where
+        turn : (u v : Bool) → cond u v false ≡ cond v u false
+        turn true true = refl
+        turn true false = refl
+        turn false true = refl
+        turn false false = refl
+
+pub sine-float-odd : (x : Float) → served x ≡ true → sineFloat (neg x) ≡ neg (sineFloat x)
+sine-float-odd nan h = absurd (true≢false (sym (served-finite nan h)))
+sine-float-odd (inf s) h = absurd (true≢false (sym (served-finite (inf s) h)))
+sine-float-odd (fin s m e) h = sine-odd-finite s m e
+
+pub cosine-float-even : (x : Float) → served x ≡ true → cosineFloat (neg x) ≡ cosineFloat x
+cosine-float-even nan h = absurd (true≢false (sym (served-finite nan h)))
+cosine-float-even (inf s) h = absurd (true≢false (sym (served-finite (inf s) h)))
+cosine-float-even (fin s m e) h = cosine-even-finite s m e
 
 -- ---- what is answered
 module _ (x : Float) where
@@ -89,6 +106,17 @@ module _ (x : Float) where
   pair-refused h = ap (λ (a : Answer). paired a (cosineOf x)) (sine-refused h)
 
 -- ---- and is right
+module _ (x : Float) (f : T (fits binary64 x)) (h : served x ≡ true) where
+  pub sine-value : SineValue x (sineFloat x)
+  sine-value =
+      let n = sine-near x f h in
+      record { near = n; isFinite = near-finite 50 (sineFloat x) (sine x) n; size = sine-sized x f h; zeros = λ z. sym (sine-is-zero x (zero-test x (served-finite x h) z)); odd = sym (sine-served (neg x) (served-even x ∙ h)) ∙ ap Value (sine-float-odd x h) }
+
+  pub cosine-value : CosineValue x (cosineFloat x)
+  cosine-value =
+      let n = cosine-near x f h in
+      record { near = n; isFinite = near-finite 50 (cosineFloat x) (cosine x) n; size = cosine-sized x f h; zeros = λ z. sym (cosine-is-zero x (zero-test x (served-finite x h) z)); even = sym (cosine-served (neg x) (served-even x ∙ h)) ∙ ap Value (cosine-float-even x h) }
+
 module _ (x : Float) (f : T (fits binary64 x)) where
   pub sine-answer : SineAnswer x (sineOf x)
   unfolding sineOf

@@ -62,18 +62,20 @@ paired OutOfRange a = NoPair
 abbrev pub Sized : Float → Type 0
 Sized y = 2 ^ 50 * top y ≤ (2 ^ 50 + 1) * bot y
 
--- y is within 2 ^ -50 of the sum, finite, and at most 1 + 2 ^ -50 in size
+-- y is within 2 ^ -50 of the sum, finite, and at most 1 + 2 ^ -50 in size; the sine is odd and the cosine even, in every bit
 pub record SineValue (x y : Float) : Type 0 where
   pub near : Near 50 y (sine x)
   pub isFinite : finite y ≡ true
   pub size : Sized y
   pub zeros : top x ≡ 0 → y ≡ x
+  pub odd : sineOf (neg x) ≡ Value (neg y)
 
 pub record CosineValue (x y : Float) : Type 0 where
   pub near : Near 50 y (cosine x)
   pub isFinite : finite y ≡ true
   pub size : Sized y
   pub zeros : top x ≡ 0 → y ≡ one
+  pub even : cosineOf (neg x) ≡ Value y
 
 -- out of range exactly where |x| ≤ 800 is false
 abbrev pub SineAnswer : Float → Answer → Type 0

@@ -1,0 +1,208 @@
+-- A job has one chain, whoever reads it: the bytes of a job's chain by themselves, as a caller of the library hands
+-- them over, are read as the chain that the program takes from the job. `w` is the length of a rotary's record.
+-- Assumes nothing.
+use Prim.Native.Nat.{ℕ, zero, suc, _+_, _-_, _*_, _≤_, _<_}
+use native.Mathlib.Omega.{arith}
+use mathlib.Core.Path.{_≡_, refl, sym, _∙_}
+use mathlib.Core.Bool.{Bool, true, false, cond}
+use mathlib.Core.List.{List}
+use borrow.Author.Tests.{eqb-true, eq-eqb, le-ltb}
+use lib.Dec.{eqb}
+use lib.ListN.{length, getD, take, drop, length-drop}
+use lib.Seq.{length-take-le, getD-take, getD-drop}
+use Rattle.refusal.specs.Numbers as Numbers
+use Rattle.chain.specs.declared.Checked.{Checked}
+use Rattle.chain.specs.declared.Checked.the-variants.{Passed}
+use Rattle.chain.specs.declared.ChainRead.the-variants.{Chain}
+use Rattle.chain.specs.Bytes.{byteAt, littleEndian, numberAt, vectorAt, spare}
+use Rattle.chain.specs.Check.{demand, oneOrTwo, knownLetter}
+use Rattle.chain.specs.ChainBytes.{chainLength, zeros, flag, rotaryFields, secondFields, chainFields, travelAt, rotaryAt, noRotary, secondAt, chainAt, readCount, readChain}
+use Rattle.chain.proofs.Bytes.{at-least-one}
+use Rattle.chain.proofs.Passing.{then-passed, demand-passed}
+use Rattle.job.specs.JobBytes.{sized, placesIn, placed, rotaryPart, secondPart, chainPart, secondIn, chainIn, jobAt, jobFields, readJob}
+use Rattle.job.specs.declared.Places.{Places}
+use Rattle.job.specs.declared.Job.{Job}
+use Rattle.job.specs.declared.JobRead.the-variants as JobRead
+use Rattle.job.proofs.JobWithin.{fields-passed, job-is, parts, chain-at, rotaries}
+use Rattle.job.proofs.JobBetween.{more, two}
+
+-- ---- what is read of a part of some bytes, which begins at an offset: `o` is the offset in the bytes of i in the part
+module _ (part bytes : List ℕ) (at : ℕ) (same : (i : ℕ) → i < length part → byteAt part i ≡ byteAt bytes (at + i)) where
+  part-byte : (i o : ℕ) → o ≡ at + i → i < length part → byteAt part i ≡ byteAt bytes o
+  part-byte i o e h = rw e (same i h)
+
+  part-whole : (n i o : ℕ) → o ≡ at + i → i + n ≤ length part → littleEndian n part i ≡ littleEndian n bytes o
+  unfolding littleEndian
+  part-whole zero i o e h = refl
+  part-whole (suc n) i o e h = rw (part-whole n i o e (omega arith), part-byte (i + n) (o + n) (omega arith) (omega arith))
+
+  part-number : (i o : ℕ) → o ≡ at + i → i + 8 ≤ length part → numberAt part i ≡ numberAt bytes o
+  unfolding numberAt
+  part-number i o e h = rw (part-whole 8 i o e h)
+
+  part-vector : (i o : ℕ) → o ≡ at + i → i + 24 ≤ length part → vectorAt part i ≡ vectorAt bytes o
+  unfolding vectorAt
+  part-vector i o e h =
+      rw (
+        part-number i o e (omega arith),
+        part-number (i + 8) (o + 8) (omega arith) (omega arith),
+        part-number (i + 16) (o + 16) (omega arith) (omega arith),
+      )
+
+  part-zeros : (n i o : ℕ) → o ≡ at + i → i + n ≤ length part → zeros bytes o n ≡ Passed → zeros part i n ≡ Passed
+  unfolding zeros
+  part-zeros zero i o e h z = refl
+  part-zeros (suc n) i o e h z =
+      let p = then-passed (demand (eqb (byteAt bytes o) 0) Numbers.malformed o) _ z in
+      rw (
+        part-byte i o e (omega arith),
+        demand-passed (eqb (byteAt bytes o) 0) Numbers.malformed o (p .0),
+        part-zeros n (i + 1) (o + 1) (omega arith) (omega arith) (p .1),
+      )
+
+  part-flag : (i o : ℕ) → o ≡ at + i → i < length part → flag part i ≡ flag bytes o
+  unfolding flag
+  part-flag i o e h = rw (part-byte i o e h)
+
+  part-spare : (switch i s o : ℕ) → s ≡ at + switch → o ≡ at + i → switch < length part → i + 8 ≤ length part → spare part switch i ≡ spare bytes s o
+  unfolding spare
+  part-spare switch i s o d e g h = rw (part-byte switch s d g, part-whole 8 i o e h)
+
+  part-fields : (i o : ℕ) → o ≡ at + i → i + 72 ≤ length part → rotaryFields bytes o ≡ Passed → rotaryFields part i ≡ Passed
+  unfolding rotaryFields
+  part-fields i o e h z =
+      let a = then-passed (demand (flag bytes (o + 1)) Numbers.malformed (o + 1)) _ z in
+      let b = then-passed (demand (flag bytes (o + 2)) Numbers.malformed (o + 2)) _ (a .1) in
+      let c = then-passed (zeros bytes (o + 3) 5) _ (b .1) in
+      let d = then-passed (demand (spare bytes (o + 2) (o + 56)) Numbers.malformed (o + 56)) _ (c .1) in
+      rw (
+        part-flag (i + 1) (o + 1) (omega arith) (omega arith),
+        demand-passed (flag bytes (o + 1)) Numbers.malformed (o + 1) (a .0),
+        part-flag (i + 2) (o + 2) (omega arith) (omega arith),
+        demand-passed (flag bytes (o + 2)) Numbers.malformed (o + 2) (b .0),
+        part-zeros 5 (i + 3) (o + 3) (omega arith) (omega arith) (c .0),
+        part-spare (i + 2) (i + 56) (o + 2) (o + 56) (omega arith) (omega arith) (omega arith) (omega arith),
+        demand-passed (spare bytes (o + 2) (o + 56)) Numbers.malformed (o + 56) (d .0),
+        part-spare (i + 2) (i + 64) (o + 2) (o + 64) (omega arith) (omega arith) (omega arith) (omega arith),
+        demand-passed (spare bytes (o + 2) (o + 64)) Numbers.malformed (o + 64) (d .1),
+      )
+
+  part-travel : (i o : ℕ) → o ≡ at + i → i + 72 ≤ length part → travelAt part i ≡ travelAt bytes o
+  unfolding travelAt
+  part-travel i o e h =
+      rw (
+        part-byte (i + 2) (o + 2) (omega arith) (omega arith),
+        part-number (i + 56) (o + 56) (omega arith) (omega arith),
+        part-number (i + 64) (o + 64) (omega arith) (omega arith),
+      )
+
+  part-rotary : (i o : ℕ) → o ≡ at + i → i + 72 ≤ length part → rotaryAt part i ≡ rotaryAt bytes o
+  unfolding rotaryAt
+  part-rotary i o e h =
+      rw (
+        part-byte i o e (omega arith),
+        part-byte (i + 1) (o + 1) (omega arith) (omega arith),
+        part-travel i o e h,
+        part-vector (i + 8) (o + 8) (omega arith) (omega arith),
+        part-vector (i + 32) (o + 32) (omega arith) (omega arith),
+      )
+
+-- ---- a rotary that a job's reader lets by, without its letter, which the library's chain check tests
+lettered : (bytes : List ℕ) (at i : ℕ) → rotaryPart bytes at i ≡ Passed → rotaryFields bytes at ≡ Passed
+unfolding rotaryPart
+lettered bytes at i h = then-passed (demand (knownLetter (byteAt bytes at)) Numbers.rotaryLetter i) _ h .1
+
+-- ---- the chain: as many bytes as its count asks for, which are those of the job from the chain's offset on
+module _ (w : ℕ) (wide : 72 ≤ w) (bytes part : List ℕ) (p : Places) (count : ℕ) (counted : oneOrTwo count ≡ true)
+    (first : count ≡ byteAt bytes (p .chain)) (long : length part ≡ chainLength w count)
+    (same : (i : ℕ) → i < length part → byteAt part i ≡ byteAt bytes (p .chain + i))
+    (passed : chainPart w bytes p count ≡ Passed) where
+  room : 32 + w ≤ length part
+  room = let h = more w count (at-least-one count counted) in omega (arith, h, long)
+
+  room-of-two : count ≡ 2 → 32 + (w + w) ≤ length part
+  room-of-two e = let h = two w count e in omega (arith, h, long)
+
+  second-fields : secondPart w bytes p count ≡ Passed → secondFields w part count ≡ Passed
+  unfolding secondPart secondFields
+  second-fields = by-count (eqb count 2) refl
+    where
+      by-count : (t : Bool) → eqb count 2 ≡ t → cond (eqb count 2) (rotaryPart bytes (p .chain + (8 + w)) 1) Passed ≡ Passed
+          → cond (eqb count 2) (rotaryFields part (8 + w)) Passed ≡ Passed
+      by-count true e h =
+          let r = room-of-two (eqb-true count 2 e) in
+          rw e (part-fields part bytes (p .chain) same (8 + w) (p .chain + (8 + w)) refl (omega (arith, r, wide)) (lettered bytes (p .chain + (8 + w)) 1 (rw e at h)))
+      by-count false e h = rw e
+
+  fields-good : chainFields w part count ≡ Passed
+  unfolding chainFields chainPart
+  fields-good =
+      let a = then-passed (zeros bytes (p .chain + 1) 7) _ passed in
+      let b = then-passed (rotaryPart bytes (p .chain + 8) 0) _ (a .1) in
+      let r = room in
+      rw (
+        part-zeros part bytes (p .chain) same 7 1 (p .chain + 1) refl (omega (arith, r, wide)) (a .0),
+        part-fields part bytes (p .chain) same 8 (p .chain + 8) refl (omega (arith, r, wide)) (lettered bytes (p .chain + 8) 0 (b .0)),
+        second-fields (b .1),
+      )
+
+  second-is : secondAt w part count ≡ secondIn w bytes p count
+  unfolding secondAt secondIn
+  second-is = by-count (eqb count 2) refl
+    where
+      by-count : (t : Bool) → eqb count 2 ≡ t → cond (eqb count 2) (rotaryAt part (8 + w)) noRotary ≡ cond (eqb count 2) (rotaryAt bytes (p .chain + (8 + w))) noRotary
+      by-count true e =
+          let r = room-of-two (eqb-true count 2 e) in
+          rw (part-rotary part bytes (p .chain) same (8 + w) (p .chain + (8 + w)) refl (omega (arith, r, wide)))
+      by-count false e = rw e
+
+  chain-is : chainAt w part count ≡ chainIn w bytes p count
+  unfolding chainAt chainIn
+  chain-is =
+      let r = room in
+      rw (
+        part-rotary part bytes (p .chain) same 8 (p .chain + 8) refl (omega (arith, r, wide)),
+        second-is,
+        part-vector part bytes (p .chain) same (8 + w * count) (p .chain + (8 + w * count)) refl (omega (arith, long)),
+      )
+
+  read-alone : readChain w part ≡ Chain (chainIn w bytes p count)
+  unfolding readChain readCount
+  read-alone =
+      let r = room in
+      let byte : byteAt part 0 ≡ count = part-byte part bytes (p .chain) same 0 (p .chain) (omega arith) (omega (arith, r)) ∙ sym first in
+      rw (le-ltb (length part) 1 (omega (arith, r)), byte, counted, eq-eqb (length part) (chainLength w count) long, fields-good, chain-is)
+
+-- ---- a job that was read
+module _ (w : ℕ) (wide : 72 ≤ w) (bytes : List ℕ) (j : Job) (read : readJob w bytes ≡ JobRead.Job j) where
+  pub chainBytes : List ℕ
+  chainBytes = take (chainLength w (j .chain .count)) (drop (j .«chain_at») bytes)
+
+  chain-passed : chainPart w bytes (placesIn bytes) (byteAt bytes (placesIn bytes .chain)) ≡ Passed
+  unfolding jobFields
+  chain-passed =
+      let a = then-passed (demand (sized (length bytes)) Numbers.malformed 0) _ (fields-passed w bytes j read) in
+      then-passed (placed w bytes (placesIn bytes) (byteAt bytes (placesIn bytes .chain))) _ (a .1) .1
+
+  job-chain : j .chain ≡ chainIn w bytes (placesIn bytes) (byteAt bytes (placesIn bytes .chain))
+  unfolding jobAt
+  job-chain = rw (job-is w bytes j read)
+
+  pub one-chain : readChain w chainBytes ≡ Chain (j .chain)
+  unfolding chainBytes
+  one-chain = rw (chain-at w bytes j read, rotaries w bytes j read, job-chain) (read-alone w wide bytes part p count (parts w bytes j read .counted) refl long same chain-passed)
+    where
+      abbrev p : Places
+      p = placesIn bytes
+
+      abbrev count : ℕ
+      count = byteAt bytes (placesIn bytes .chain)
+
+      abbrev part : List ℕ
+      part = take (chainLength w count) (drop (p .chain) bytes)
+
+      long : length part ≡ chainLength w count
+      long = length-take-le (chainLength w count) (drop (p .chain) bytes) (let h = parts w bytes j read .chain-within in rw length-drop (omega (arith, h)))
+
+      same : (i : ℕ) → i < length part → byteAt part i ≡ byteAt bytes (p .chain + i)
+      same i h = getD-take (chainLength w count) (drop (p .chain) bytes) i 0 (omega (arith, h, long)) ∙ getD-drop (p .chain) bytes i 0
