@@ -178,11 +178,12 @@ module _ (x : Float) (t : T (fits binary64 x)) (h : lt x nought ≡ false) (l : 
       under : (v a b : ℕ) → v < a → 2 * a ≤ b → 2 * v < b
       under v a b h l = omega arith
 
-  pub one-more : n + 1 < 2 ^ 64
-  one-more = next n (lt-of-le-of-lt (le-of-eq n-units) (div-lt-iff-lt-mul U-pos .1 (lt-of-lt-of-le (double (S .v) Large (S .less)) (le-of-eq wide))))
+  -- a small number more still fits
+  pub add-room : (m : ℕ) → m ≤ 2 ^ 60 → n + m < 2 ^ 64
+  add-room m k = next n m k (lt-of-le-of-lt (le-of-eq n-units) (div-lt-iff-lt-mul U-pos .1 (lt-of-lt-of-le (double (S .v) Large (S .less)) (le-of-eq wide))))
     where
-      next : (n : ℕ) → n < 2 ^ 53 → n + 1 < 2 ^ 64
-      next n h = omega arith
+      next : (n m : ℕ) → m ≤ 2 ^ 60 → n < 2 ^ 53 → n + m < 2 ^ 64
+      next n m k h = omega arith
 
       double : (a b : ℕ) → a < b → 2 * a < 2 * b
       double a b h = omega arith

@@ -174,35 +174,42 @@ module _ (w : ℕ) (wide : 72 ≤ w) (bytes part : List ℕ) (p : Places) (count
       rw (le-ltb (length part) 1 (omega (arith, r)), byte, counted, eq-eqb (length part) (chainLength w count) long, fields-good, chain-is)
 
 -- ---- a job that was read
+-- the bytes of its chain, by themselves
+abbrev pub chainBytes : ℕ → List ℕ → Job → List ℕ
+chainBytes w bytes j = take (chainLength w (j .chain .count)) (drop (j .«chain_at») bytes)
+
 module _ (w : ℕ) (wide : 72 ≤ w) (bytes : List ℕ) (j : Job) (read : readJob w bytes ≡ JobRead.Job j) where
-  pub chainBytes : List ℕ
-  chainBytes = take (chainLength w (j .chain .count)) (drop (j .«chain_at») bytes)
+  abbrev places : Places
+  places = placesIn bytes
 
-  chain-passed : chainPart w bytes (placesIn bytes) (byteAt bytes (placesIn bytes .chain)) ≡ Passed
+  abbrev rotary-count : ℕ
+  rotary-count = byteAt bytes (placesIn bytes .chain)
+
+  abbrev alone : List ℕ
+  alone = take (chainLength w rotary-count) (drop (places .chain) bytes)
+
+  alone-long : length alone ≡ chainLength w rotary-count
+  alone-long =
+      let h = parts w bytes j read .chain-within in
+      let e = length-drop (places .chain) bytes in
+      length-take-le (chainLength w rotary-count) (drop (places .chain) bytes) (omega (arith, h, e))
+
+  alone-same : (i : ℕ) → i < length alone → byteAt alone i ≡ byteAt bytes (places .chain + i)
+  alone-same i h =
+      let l = alone-long in
+      getD-take (chainLength w rotary-count) (drop (places .chain) bytes) i 0 (omega (arith, h, l)) ∙ getD-drop (places .chain) bytes i 0
+
+  alone-passed : chainPart w bytes places rotary-count ≡ Passed
   unfolding jobFields
-  chain-passed =
+  alone-passed =
       let a = then-passed (demand (sized (length bytes)) Numbers.malformed 0) _ (fields-passed w bytes j read) in
-      then-passed (placed w bytes (placesIn bytes) (byteAt bytes (placesIn bytes .chain))) _ (a .1) .1
+      then-passed (placed w bytes places rotary-count) _ (a .1) .1
 
-  job-chain : j .chain ≡ chainIn w bytes (placesIn bytes) (byteAt bytes (placesIn bytes .chain))
+  job-chain : j .chain ≡ chainIn w bytes places rotary-count
   unfolding jobAt
   job-chain = rw (job-is w bytes j read)
 
-  pub one-chain : readChain w chainBytes ≡ Chain (j .chain)
-  unfolding chainBytes
-  one-chain = rw (chain-at w bytes j read, rotaries w bytes j read, job-chain) (read-alone w wide bytes part p count (parts w bytes j read .counted) refl long same chain-passed)
-    where
-      abbrev p : Places
-      p = placesIn bytes
-
-      abbrev count : ℕ
-      count = byteAt bytes (placesIn bytes .chain)
-
-      abbrev part : List ℕ
-      part = take (chainLength w count) (drop (p .chain) bytes)
-
-      long : length part ≡ chainLength w count
-      long = length-take-le (chainLength w count) (drop (p .chain) bytes) (let h = parts w bytes j read .chain-within in rw length-drop (omega (arith, h)))
-
-      same : (i : ℕ) → i < length part → byteAt part i ≡ byteAt bytes (p .chain + i)
-      same i h = getD-take (chainLength w count) (drop (p .chain) bytes) i 0 (omega (arith, h, long)) ∙ getD-drop (p .chain) bytes i 0
+  pub one-chain : readChain w (chainBytes w bytes j) ≡ Chain (j .chain)
+  one-chain =
+      rw (chain-at w bytes j read, rotaries w bytes j read, job-chain)
+      (read-alone w wide bytes alone places rotary-count (parts w bytes j read .counted) refl alone-long alone-same alone-passed)

@@ -128,14 +128,14 @@ module _ (b : ℕ) (l : 4607182418766462976 ≤ b) (h : b < 4607182418833571840)
   pub hi : b < 9218868437227405312
   hi = omega arith
 
-  pub no-nan-near : T (not (nanBits binary64 ((b + 4607182418800017408) / 2)))
-  no-nan-near = low-bits ((b + 4607182418800017408) / 2) (go b h)
+  pub no-nan-near : (n : ℕ) → n ≤ 4607182418800019999 → T (not (nanBits binary64 ((b + n) / 2)))
+  no-nan-near n k = low-bits ((b + n) / 2) (go b n h k)
     where
-      go : (b : ℕ) → b < 4607182418833571840 → (b + 4607182418800017408) / 2 ≤ 9218868437227405312
-      go b h = omega arith
+      go : (b n : ℕ) → b < 4607182418833571840 → n ≤ 4607182418800019999 → (b + n) / 2 ≤ 9218868437227405312
+      go b n h k = omega arith
 
-  pub sum-room : b + 4607182418800017408 < 2 ^ 64
-  sum-room = omega arith
+  pub sum-room : (n : ℕ) → n ≤ 4607182418800019999 → b + n < 2 ^ 64
+  sum-room n k = omega arith
 
 -- ---- the value
 above-is : (x : Float) → T (fits binary64 x) → (w : ℕ) → Is x false w → 0 < w → Above x

@@ -1,5 +1,6 @@
+use lib.Dec.{lit≤}
 use borrow.Author.Needs.{needs}
-use Rattle.float.proofs.Whole.{in-range, one-more, rounded-small, rounded-large}
+use Rattle.float.proofs.Whole.{in-range, add-room, rounded-small, rounded-large}
 use Rattle.float.proofs.round_above.Statement.{statement}
 use Rattle.float.proofs.round_above.Tie as tie
 
@@ -7,7 +8,7 @@ truncating-requires : tie.Need-truncating-f64-to-u64-requires
 truncating-requires c κs = in-range _ (search needs) (c .before .pre .0) (c .before .pre .1) (c .if1 .taken)
 
 add-halves : tie.Need-add-nearest-u64-to-f64
-add-halves c = record { fits = one-more _ (search needs) (c .before .before .pre .0) (c .before .before .pre .1) (c .before .if1 .taken) _ (c .truncating-f64-to-u64 .ensures) }
+add-halves c = record { fits = add-room _ (search needs) (c .before .before .pre .0) (c .before .before .pre .1) (c .before .if1 .taken) _ (c .truncating-f64-to-u64 .ensures) _ (lit≤ tt) }
 
 returns : tie.Need-returns
 returns c =

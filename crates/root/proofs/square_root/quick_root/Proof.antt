@@ -1,3 +1,4 @@
+use lib.Dec.{lit≤}
 use lib.Ieee.{binary64, toBits}
 use borrow.Author.Needs.{needs}
 use Rattle.float.proofs.NotNan.{same-number}
@@ -11,8 +12,8 @@ quick-root-spec =
     (tie.spec
     (λ c. nan-root _ (c .if1 .taken))
     (λ c. same-number _ (c .if1 .left))
-    (λ c. record { fits = sum-room _ (c .before .if2 .taken) (c .if3 .taken) })
-    (λ c. no-nan-near _ (c .before .if2 .taken) (c .if3 .taken))
+    (λ c. record { fits = sum-room _ (c .before .if2 .taken) (c .if3 .taken) _ (lit≤ tt) })
+    (λ c. no-nan-near _ (c .before .if2 .taken) (c .if3 .taken) _ (lit≤ tt))
     (λ c. near-root _ (search needs) (c .before .if2 .taken) (c .if3 .taken))
     (λ c κs. tt)
     (λ c. c .root .ensures))
