@@ -210,6 +210,7 @@ module _ (w : ℕ) (wide : 72 ≤ w) (bytes : List ℕ) (j : Job) (read : readJo
   job-chain = rw (job-is w bytes j read)
 
   pub one-chain : readChain w (chainBytes w bytes j) ≡ Chain (j .chain)
+  unfolding chainIn
   one-chain =
       rw (chain-at w bytes j read, rotaries w bytes j read, job-chain)
       (read-alone w wide bytes alone places rotary-count (parts w bytes j read .counted) refl alone-long alone-same alone-passed)
