@@ -21,3 +21,21 @@ then-passed (Refused r) second e = absurd (refused-passed e)
 pub demand-passed : (ok : Bool) (number at : ℕ) → demand ok number at ≡ Passed → ok ≡ true
 demand-passed true number at e = refl
 demand-passed false number at e = absurd (refused-passed e)
+
+-- six checks in a row
+pub record SixPassed (a b c d e f : Checked) : Type 0 where
+  pub first : a ≡ Passed
+  pub second : b ≡ Passed
+  pub third : c ≡ Passed
+  pub fourth : d ≡ Passed
+  pub fifth : e ≡ Passed
+  pub sixth : f ≡ Passed
+
+pub six-passed : (a b c d e f : Checked) → then a (then b (then c (then d (then e f)))) ≡ Passed → SixPassed a b c d e f
+six-passed a b c d e f h =
+    let p = then-passed a (then b (then c (then d (then e f)))) h in
+    let q = then-passed b (then c (then d (then e f))) (p .1) in
+    let r = then-passed c (then d (then e f)) (q .1) in
+    let s = then-passed d (then e f) (r .1) in
+    let t = then-passed e f (s .1) in
+    record { first = p .0; second = q .0; third = r .0; fourth = s .0; fifth = t .0; sixth = t .1 }

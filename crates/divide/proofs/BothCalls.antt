@@ -19,11 +19,14 @@ use Rattle.chain.specs.declared.Checked.the-variants as Checked
 use Rattle.chain.specs.declared.Joints.{Joints}
 use Rattle.chain.specs.declared.Kinematics.{Kinematics}
 use Rattle.chain.specs.Check.{demand, then}
+use Rattle.chain.specs.Prepared.{prepared}
 use Rattle.chain.proofs.Passing.{refused-passed}
+use Rattle.chain.proofs.UnitAxes.{FitAxes}
 use Rattle.path.specs.declared.Start.{Start}
 use Rattle.path.specs.Solving.{PathAnswer, Along, AtPose, Kept, jointNumbers, unlessKept, solveCheck, solveChecked, solvePath, checkedIn, pathOver}
 use Rattle.path.proofs.Along.{along-long, refused-pose, solved-along, along-one, at-pose-one, kept-one, kept-along, at-pose-along, at-pose-kept}
-use Rattle.path.proofs.Room.{room-passed}
+use Rattle.path.specs.Closest.{bounded}
+use Rattle.path.proofs.Room.{room-passed, chain-bounded}
 use Rattle.divide.specs.declared.Division.{Division}
 use Rattle.divide.specs.declared.Division.the-variants as Division
 use Rattle.divide.specs.declared.Division.the-variants.{Refused}
@@ -73,6 +76,9 @@ module _ (k : Kinematics) (lent : List Float) (start : Start) (cone : Float) (ro
       let a = room-passed k start cone (length lent) (spaceIn roomPoses roomJoints * 5) (solved-by e .1 .0) in
       let b = space-joints roomPoses roomJoints in
       omega (arith, a, b)
+
+  pub chain-for : FitAxes k → bothCheck k start cone (length lent) roomPoses roomJoints ≡ Checked.Passed → bounded (prepared k) ≡ true
+  chain-for F e = chain-bounded k start cone (length lent) (spaceIn roomPoses roomJoints * 5) (solved-by e .1 .0) F
 
 -- ---- what is left depends on the outputs' lengths alone, but for what keeps them
 cleared-by-length : (answer : DivisionAnswer) (o o' : List Float) → length o' ≡ length o → jointsLeft (clearing answer) o' ≡ jointsLeft (clearing answer) o

@@ -12,3 +12,4 @@ pub mod Subdivides
 pub mod BothCalls
 pub mod Parallel
 pub mod Examples
+pub mod NeverFallback

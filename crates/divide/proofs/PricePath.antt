@@ -8,13 +8,14 @@ use lib.Ieee.{Float, binary64, fits}
 use lib.ListN.{length, getD, drop}
 use lib.Seq.{getD-drop}
 use Rattle.lists.specs.Rows.{rows, paired}
+use Rattle.lists.specs.Each.{Each}
 use Rattle.chain.specs.declared.Joints.{Joints}
 use Rattle.chain.specs.declared.Kinematics.{Kinematics}
 use Rattle.chain.specs.declared.Prepared.{Prepared}
 use Rattle.chain.specs.declared.ToolPose.{ToolPose}
 use Rattle.chain.specs.Prepared.{prepared}
 use Rattle.path.specs.declared.Start.{Start}
-use Rattle.path.specs.Promise.{Served, Each, OnPath}
+use Rattle.path.specs.Promise.{Served, OnPath}
 use Rattle.path.specs.Solving.{Along, posesIn, solvePath}
 use Rattle.path.proofs.Promises.{path-served}
 use Rattle.halving.specs.Halving.{halve}

@@ -28,11 +28,11 @@ use Rattle.middle.specs.Testing.{half, lerpJoints}
 half-fits : T (fits binary64 half)
 half-fits = ofBits-fits binary64 0x3fe0_0000_0000_0000
 
-turned-big : le mostTurned big ≡ true
+pub turned-big : le mostTurned big ≡ true
 unfolding big ofBits Ieee.le Ieee.lt Ieee.eq
 turned-big = refl
 
-mid-fits : (a b : Float) → T (fits binary64 (lerp a b half))
+pub mid-fits : (a b : Float) → T (fits binary64 (lerp a b half))
 mid-fits a b = add-fits binary64 a _
 
 turned-tame : (x : Float) → within x mostTurned ≡ true → Tame x
@@ -40,7 +40,7 @@ unfolding within
 turned-tame x h = let p = size-le-parts x mostTurned h in tame-of mostTurned x turned-big (p .0) (p .1)
 
 module _ (a b : Float) (fa : T (fits binary64 a)) (fb : T (fits binary64 b)) where
-  mid-within : (c : Float) → le c big ≡ true → within a c ≡ true → within b c ≡ true → within (lerp a b half) c ≡ true
+  pub mid-within : (c : Float) → le c big ≡ true → within a c ≡ true → within b c ≡ true → within (lerp a b half) c ≡ true
   unfolding within
   mid-within c h x y = way-size a b half c fa fb half-fits h half-portion x y
 
@@ -54,7 +54,7 @@ module _ (a b : Float) (fa : T (fits binary64 a)) (fb : T (fits binary64 b)) whe
   mid-permitted Unlimited x y g h = within-finite mostTurned over-turned (lerp a b half) (mid-within mostTurned turned-big x y)
 
 -- ---- three numbers
-mid-all-within : (c : Float) → le c big ≡ true → (u v : Vec3) → T (fits binary64 (u .x)) → T (fits binary64 (u .y)) → T (fits binary64 (u .z)) → T (fits binary64 (v .x)) → T (fits binary64 (v .y)) → T (fits binary64 (v .z))
+pub mid-all-within : (c : Float) → le c big ≡ true → (u v : Vec3) → T (fits binary64 (u .x)) → T (fits binary64 (u .y)) → T (fits binary64 (u .z)) → T (fits binary64 (v .x)) → T (fits binary64 (v .y)) → T (fits binary64 (v .z))
     → allWithin u c ≡ true → allWithin v c ≡ true → allWithin (lerpVec u v half) c ≡ true
 unfolding allWithin lerpVec
 mid-all-within c h u v ux uy uz vx vy vz g k =

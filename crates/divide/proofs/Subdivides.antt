@@ -19,7 +19,7 @@ use Rattle.chain.specs.declared.Joints.{Joints}
 use Rattle.chain.specs.declared.Kinematics.{Kinematics}
 use Rattle.chain.specs.Prepared.{prepared}
 use Rattle.path.specs.declared.Start.{Start}
-use Rattle.path.specs.Promise.{Each}
+use Rattle.lists.specs.Each.{Each}
 use Rattle.path.specs.Solving.{Along, poseFrom, jointNumbers, solvePath}
 use Rattle.path.proofs.Along.{along-long}
 use Rattle.machine.specs.declared.Divided.{Divided}

@@ -15,3 +15,6 @@ pub mod Monotone
 pub mod Between
 pub mod NotNan
 pub mod SizeBits
+pub mod RelativeError
+pub mod UpTo
+pub mod Bounded

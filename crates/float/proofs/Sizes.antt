@@ -21,7 +21,7 @@ size-neg nan = refl
 size-neg (inf s) = refl
 size-neg (fin s m e) = refl
 
-not-nan-neg : (x : Float) → isNan x ≡ false → isNan (neg x) ≡ false
+pub not-nan-neg : (x : Float) → isNan x ≡ false → isNan (neg x) ≡ false
 unfolding neg isNan
 not-nan-neg nan h = h
 not-nan-neg (inf s) h = refl

@@ -60,7 +60,7 @@ record Small (x : Float) : Type 0 where
   answer : roundHalfAway x ≡ round binary64 false (nearestWhole v U) 1
 
 -- the nearest whole number of a value, by its units
-whole-units : (m : ℕ) (e : ℤ) (v : ℕ) → m * up e * U ≡ v * down e → nearestWhole (m * up e) (down e) ≡ nearestWhole v U
+pub whole-units : (m : ℕ) (e : ℤ) (v : ℕ) → m * up e * U ≡ v * down e → nearestWhole (m * up e) (down e) ≡ nearestWhole v U
 whole-units m e v h = div-same (2 * (m * up e) + down e) (2 * down e) (2 * v + U) (2 * U) (twice (down e) (down-pos e)) (twice U U-pos) (cross (m * up e) (down e) U h)
   where
     twice : (a : ℕ) → 0 < a → 0 < 2 * a

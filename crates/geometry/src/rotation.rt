@@ -12,8 +12,8 @@ use crate::vector::sub;
 use trig::PairAnswer;
 
 impl Turn {
-    // By that many degrees, right-handed. Beyond 45,000 degrees, and for a NaN, it is no turn at all: the checks keep
-    // every entry within that.
+    // By that many degrees, right-handed. Beyond 45,000 degrees, and for a NaN, it is no turn at all. No entry comes to
+    // that: the files NeverFallback.antt of chain, inverse, path and divide prove it.
     pub fn of(degrees: f64) -> Turn
         ensures { λ r. ⌜ r ≡ S.turnOf degrees ⌝ }
     {

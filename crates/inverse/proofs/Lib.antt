@@ -9,3 +9,8 @@ pub mod Kept
 pub mod Counting
 pub mod Laws
 pub mod Examples
+pub mod AngleBounds
+pub mod AfterChecks
+pub mod Arctangents
+pub mod InnerForward
+pub mod NeverFallback

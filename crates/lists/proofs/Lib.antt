@@ -3,3 +3,4 @@ pub mod Rows
 pub mod Search
 pub mod Padding
 pub mod Tests
+pub mod Each

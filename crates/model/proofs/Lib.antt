@@ -1,3 +1,4 @@
 pub mod SameBytes
 pub mod Links
 pub mod RightAngles
+pub mod NeverFallback

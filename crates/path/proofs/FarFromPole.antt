@@ -9,13 +9,14 @@ use borrow.Author.Tests.{le-ltb}
 use lib.Dec.{T, ltb, leb, lit≤, lit<}
 use lib.IntN.{ℤ, negsuc}
 use lib.Ieee.{Float, nan, inf, fin, binary64, up, down, round, add, sub, mul, neg, ofBits, le, lt, eq, isNan, fits}
-use lib.Ieee.Fits.{down-pos, cond-fits, neg-fits, add-fits, mul-fits}
+use lib.Ieee.Fits.{down-pos, neg-fits, add-fits, mul-fits}
 use lib.Ieee.Bits.{ofBits-fits}
 use lib.Ieee.Scale.{finite}
 use lib.Ieee.Positive.{num as top}
 use Rattle.float.specs.Helpers.{nought, one, negative, sizeOf, clampUnit, minimum, toDegrees}
 use Rattle.root.specs.Root.{root}
 use lib.Ieee.Order.{round-mono}
+use Rattle.float.proofs.Bounded.{clamp-fits}
 use Rattle.float.proofs.Commute.{mul-commutes}
 use Rattle.float.proofs.Order as order
 use Rattle.trig.specs.declared.Answer.{Answer}
@@ -426,18 +427,6 @@ module _ (c cone : Float) (f : T (fits binary64 c)) (h : wellOutside c cone ≡ 
       order.le-lt-trans cone tenDegrees _ narrow
       (clearance-above (arccosineOf c) (arccosineOf (neg c)) (least-of c f not-wide square (arccosineOf c) (arccosine-answer c f))
       (least-of (neg c) (neg-fits binary64 c f) (ap (λ (z : Float). le z wide) (size-neg c) ∙ not-wide) (ap (λ (z : Float). le leastSquare z) (turned-round c) ∙ square) (arccosineOf (neg c)) (arccosine-answer (neg c) (neg-fits binary64 c f))))
-
-clamp-fits : (x : Float) → T (fits binary64 x) → T (fits binary64 (clampUnit x))
-unfolding clampUnit
-clamp-fits nan f = f
-clamp-fits (inf s) f = cond-fits binary64 s (neg one) one (neg-fits binary64 one one-fits) one-fits
-  where
-    one-fits : T (fits binary64 one)
-    one-fits = ofBits-fits binary64 0x3ff0_0000_0000_0000
-clamp-fits (fin s m e) f = cond-fits binary64 (leb (m * up e) (down e)) (fin s m e) _ f (cond-fits binary64 s (neg one) one (neg-fits binary64 one one-fits) one-fits)
-  where
-    one-fits : T (fits binary64 one)
-    one-fits = ofBits-fits binary64 0x3ff0_0000_0000_0000
 
 -- ---- the law
 pub well-outside : (frame : SingularFrame) (cone : Float) (axis : Vec3) → wellOutside (clampUnit (dot axis (frame .direction))) cone ≡ true → inSingularCone frame cone axis ≡ false

@@ -1,8 +1,8 @@
 pub mod FarApart
 pub mod Literals
 pub mod FarFromPole
-pub mod Bounded
 pub mod Positions
+pub mod UnwoundBounds
 pub mod OneEnough
 pub mod Walking
 pub mod Room
@@ -10,3 +10,6 @@ pub mod Promises
 pub mod Along
 pub mod Apart
 pub mod Stops
+pub mod TurnBounds
+pub mod Arctangents
+pub mod NeverFallback

@@ -1,14 +1,16 @@
--- Where one solution is closer, reached and within the limits, it is the answer of both: the other's position is finite (Positions.antt), and its limits are not asked.
+-- Where one solution is closer, reached and within the limits, it is the answer of both: the other's position is finite
+-- (Positions.antt), and its limits are not asked.
 use mathlib.Core.Path.{_≡_, refl, ap, _∙_}
-use mathlib.Core.Bool.{Bool, true, false, not, cond, _&&_, false≢true}
+use mathlib.Core.Bool.{Bool, true, false, cond, _&&_, false≢true, and-eq-true-iff}
 use mathlib.Core.Logic.{_⊎_, inl, inr}
-use borrow.Author.Tests.{not-false}
-use lib.Dec.{T}
-use lib.Ieee.{Float, binary64, fits}
 use Rattle.float.specs.Helpers.{nought}
 use Rattle.float.specs.TotalOrder.{before}
 use Rattle.geometry.specs.declared.Vec3.{Vec3}
+use Rattle.geometry.proofs.Bounded.{SmallVec}
+use Rattle.geometry.proofs.FitVectors.{FitVec}
 use Rattle.chain.specs.declared.Joints.{Joints}
+use Rattle.chain.specs.declared.Mount.{Mount}
+use Rattle.chain.specs.declared.Mount.the-variants.{Table, Head, Absent}
 use Rattle.chain.specs.declared.Prepared.{Prepared}
 use Rattle.chain.specs.declared.Spin.{Spin}
 use Rattle.chain.specs.Check.{within, allWithin, longest}
@@ -20,58 +22,49 @@ use Rattle.inverse.specs.declared.RawAngles.the-variants as Raw
 use Rattle.path.specs.Unwinding.{unwindAngles, inside}
 use Rattle.path.specs.Locking.{withinLimits}
 use Rattle.path.specs.Exact.{reachedBy, candidate, anglesOf, repeats, secondCandidate, positionFinite, unwound, ranked, ranksBefore, closestOrOther, ofRanked, alone, both, ofCandidates, ofPositions, ofRaw}
-use Rattle.path.specs.Closest.{spinWithin, chainWithin, turnedTo, keptAt, keptOf, kept, distance, closer, closestAlone}
+use Rattle.path.specs.Closest.{boundedSpin, bounded, turnedTo, keptAt, keptOf, kept, distance, closer, closestAlone}
 use Rattle.path.specs.declared.Bounds.{Bounds}
 use Rattle.path.specs.declared.Candidate.{Candidate}
 use Rattle.path.specs.declared.Candidate.the-variants as Candidate
 use Rattle.path.specs.declared.PoseAnswer.{PoseAnswer}
 use Rattle.path.specs.declared.PoseAnswer.the-variants.{At, Refused}
 use Rattle.path.specs.declared.Setup.{Setup}
-use Rattle.path.proofs.Bounded.{SmallVec}
 use Rattle.path.proofs.Positions.{SmallSpin, SmallChain, within-small, candidate-finite}
 
 -- ---- the numbers are doubles, as every value that code has
-abbrev pub FitVec : Vec3 → Type 0
-FitVec v = T (fits binary64 (v .x)) × T (fits binary64 (v .y)) × T (fits binary64 (v .z))
-
 abbrev pub FitSpin : Spin → Type 0
 FitSpin s = FitVec (s .axis) × FitVec (s .pivot)
 
 abbrev pub FitChain : Prepared → Type 0
 FitChain p = FitSpin (p .first) × FitSpin (p .second) × FitVec (p .spindle)
 
-left : (a b : Bool) → (a && b) ≡ true → a ≡ true
-left true b h = refl
-left false b h = absurd (false≢true h)
-
-right : (a b : Bool) → (a && b) ≡ true → b ≡ true
-right true b h = h
-right false b h = absurd (false≢true h)
-
 vec-small : (v : Vec3) → FitVec v → allWithin v longest ≡ true → SmallVec 17 v
 unfolding allWithin
 vec-small v F h =
-    let xy = left (within (v .x) longest && within (v .y) longest) (within (v .z) longest) h in (
-      within-small (v .x) (F .0) (left (within (v .x) longest) (within (v .y) longest) xy),
-      within-small (v .y) (F .1) (right (within (v .x) longest) (within (v .y) longest) xy),
-      within-small (v .z) (F .2) (right (within (v .x) longest && within (v .y) longest) (within (v .z) longest) h),
-    )
+    let xyz = and-eq-true-iff (within (v .x) longest && within (v .y) longest) (within (v .z) longest) .0 h in
+    let xy = and-eq-true-iff (within (v .x) longest) (within (v .y) longest) .0 (xyz .0) in
+    (within-small (v .x) (F .0) (xy .0), within-small (v .y) (F .1) (xy .1), within-small (v .z) (F .2) (xyz .1))
 
-spin-small : (s : Spin) → FitSpin s → spinWithin s ≡ true → SmallSpin s
-unfolding spinWithin
-spin-small s F h = record {
-  axis = vec-small (s .axis) (F .0) (left (allWithin (s .axis) longest) (allWithin (s .pivot) longest) h);
-  pivot = vec-small (s .pivot) (F .1) (right (allWithin (s .axis) longest) (allWithin (s .pivot) longest) h);
-}
+-- ---- what is bounded is small
+both-small : (axis pivot : Vec3) → FitVec axis → FitVec pivot → (allWithin axis longest && allWithin pivot longest) ≡ true → SmallVec 17 axis × SmallVec 17 pivot
+both-small axis pivot A P h = let w = and-eq-true-iff (allWithin axis longest) (allWithin pivot longest) .0 h in (vec-small axis A (w .0), vec-small pivot P (w .1))
 
-chain-small : (p : Prepared) → FitChain p → chainWithin p ≡ true → SmallChain p
-unfolding chainWithin
+spin-small : (m : Mount) (axis pivot : Vec3) → FitVec axis → FitVec pivot → boundedSpin m axis pivot ≡ true → SmallSpin m axis pivot
+spin-small Table axis pivot A P h = both-small axis pivot A P h
+spin-small Head axis pivot A P h = both-small axis pivot A P h
+spin-small Absent axis pivot A P h = tt
+
+chain-small : (p : Prepared) → FitChain p → bounded p ≡ true → SmallChain p
+unfolding bounded
 chain-small p F h =
-    let two = left (spinWithin (p .first) && spinWithin (p .second)) (allWithin (p .spindle) longest) h in
+    let first = boundedSpin (p .first .mount) (p .first .axis) (p .first .pivot) in
+    let second = boundedSpin (p .second .mount) (p .second .axis) (p .second .pivot) in
+    let all = and-eq-true-iff (first && second) (allWithin (p .spindle) longest) .0 h in
+    let two = and-eq-true-iff first second .0 (all .0) in
     record {
-      first = spin-small (p .first) (F .0) (left (spinWithin (p .first)) (spinWithin (p .second)) two);
-      second = spin-small (p .second) (F .1) (right (spinWithin (p .first)) (spinWithin (p .second)) two);
-      spindle = vec-small (p .spindle) (F .2) (right (spinWithin (p .first) && spinWithin (p .second)) (allWithin (p .spindle) longest) h);
+      first = spin-small (p .first .mount) (p .first .axis) (p .first .pivot) (F .0 .0) (F .0 .1) (two .0);
+      second = spin-small (p .second .mount) (p .second .axis) (p .second .pivot) (F .1 .0) (F .1 .1) (two .1);
+      spindle = vec-small (p .spindle) (F .2) (all .1);
     }
 
 -- ---- a candidate has the angles that it was made from
@@ -171,35 +164,21 @@ module _ (s : Setup) (target tip : Vec3) (previous one two : Angles) (u : Joints
           on (inl (n, k)) = first-enough (s .bounds) previous one two u (reachedBy (s .chain) target tip one) (reachedBy (s .chain) target tip two) (reached-of (s .chain) target tip one) (reached-of (s .chain) target tip two) f n k
           on (inr (n, k)) = absurd (nothing-kept k)
 
-  pair-enough : FitChain (s .chain) → FitVec tip → closestAlone s target tip previous (Raw.At one) (Raw.At two) ≡ Candidate.At u → ofRaw s target tip previous (Raw.At one) (Raw.At two) ≡ At u
+  pair-enough : SmallChain (s .chain) → SmallVec 17 tip → closestAlone s target tip previous (Raw.At one) (Raw.At two) ≡ Candidate.At u → ofRaw s target tip previous (Raw.At one) (Raw.At two) ≡ At u
   unfolding ofRaw ofPositions secondCandidate
-  pair-enough F G h = unlike (either (sameAngles one two) _ _ _ h)
+  pair-enough P A h = unlike (either (sameAngles one two) _ _ _ h)
     where
-      finished : sameAngles one two ≡ false → chainWithin (s .chain) ≡ true → allWithin tip longest ≡ true → closer s target tip previous one two ≡ Candidate.At u → ofRaw s target tip previous (Raw.At one) (Raw.At two) ≡ At u
-      finished e i l k =
-          let P = chain-small (s .chain) F i in
-          let A = vec-small tip G l in
+      unlike : ((sameAngles one two ≡ true) × (Candidate.Nothing ≡ Candidate.At u)) ⊎ ((sameAngles one two ≡ false) × (closer s target tip previous one two ≡ Candidate.At u)) → ofRaw s target tip previous (Raw.At one) (Raw.At two) ≡ At u
+      unlike (inl (e, k)) = absurd (nothing-kept k)
+      unlike (inr (e, k)) =
           rw (not-repeated one two (reachedBy (s .chain) target tip one) (reached-of (s .chain) target tip one) e, candidate-finite (s .chain) target tip P A (Raw.At one), candidate-finite (s .chain) target tip P A (Raw.At two))
           (closer-enough k)
 
-      short : ((not (allWithin tip longest) ≡ true) × (Candidate.Nothing ≡ Candidate.At u)) ⊎ ((not (allWithin tip longest) ≡ false) × (closer s target tip previous one two ≡ Candidate.At u)) → sameAngles one two ≡ false → chainWithin (s .chain) ≡ true → ofRaw s target tip previous (Raw.At one) (Raw.At two) ≡ At u
-      short (inl (l, k)) e i = absurd (nothing-kept k)
-      short (inr (l, k)) e i = finished e i (not-false (allWithin tip longest) l) k
+of-small : (s : Setup) (target tip : Vec3) (previous : Angles) (one two : RawAngles) (u : Joints) → SmallChain (s .chain) → SmallVec 17 tip → closestAlone s target tip previous one two ≡ Candidate.At u → ofRaw s target tip previous one two ≡ At u
+of-small s target tip previous (Raw.At one) (Raw.At two) u P A h = pair-enough s target tip previous one two u P A h
+of-small s target tip previous (Raw.At one) Raw.Nothing u P A h = absurd (nothing-kept h)
+of-small s target tip previous Raw.Nothing two u P A h = absurd (nothing-kept h)
 
-      bounded :
-          ((not (chainWithin (s .chain)) ≡ true) × (Candidate.Nothing ≡ Candidate.At u)) ⊎ ((not (chainWithin (s .chain)) ≡ false) × (cond (not (allWithin tip longest)) Candidate.Nothing (closer s target tip previous one two) ≡ Candidate.At u))
-          → sameAngles one two ≡ false → ofRaw s target tip previous (Raw.At one) (Raw.At two) ≡ At u
-      bounded (inl (i, k)) e = absurd (nothing-kept k)
-      bounded (inr (i, k)) e = short (either (not (allWithin tip longest)) _ _ _ k) e (not-false (chainWithin (s .chain)) i)
-
-      unlike :
-          ((sameAngles one two ≡ true) × (Candidate.Nothing ≡ Candidate.At u))
-          ⊎ ((sameAngles one two ≡ false) × (cond (not (chainWithin (s .chain))) Candidate.Nothing (cond (not (allWithin tip longest)) Candidate.Nothing (closer s target tip previous one two)) ≡ Candidate.At u))
-          → ofRaw s target tip previous (Raw.At one) (Raw.At two) ≡ At u
-      unlike (inl (e, k)) = absurd (nothing-kept k)
-      unlike (inr (e, k)) = bounded (either (not (chainWithin (s .chain))) _ _ _ k) e
-
-pub one-enough : (s : Setup) (target tip : Vec3) (previous : Angles) (one two : RawAngles) (u : Joints) → FitChain (s .chain) → FitVec tip → closestAlone s target tip previous one two ≡ Candidate.At u → ofRaw s target tip previous one two ≡ At u
-one-enough s target tip previous (Raw.At one) (Raw.At two) u F G h = pair-enough s target tip previous one two u F G h
-one-enough s target tip previous (Raw.At one) Raw.Nothing u F G h = absurd (nothing-kept h)
-one-enough s target tip previous Raw.Nothing two u F G h = absurd (nothing-kept h)
+pub one-enough : (s : Setup) (target tip : Vec3) (previous : Angles) (one two : RawAngles) (u : Joints) → FitChain (s .chain) → bounded (s .chain) ≡ true → FitVec tip → allWithin tip longest ≡ true
+    → closestAlone s target tip previous one two ≡ Candidate.At u → ofRaw s target tip previous one two ≡ At u
+one-enough s target tip previous one two u F b G w h = of-small s target tip previous one two u (chain-small (s .chain) F b) (vec-small tip G w) h

@@ -1,29 +1,26 @@
 -- Where no number of the chain and of the tip is past 100,000, the position of every pair of angles is finite: a sine
 -- is at most a little over 1, and nothing in between can overflow.
 use mathlib.Core.Path.{_≡_, refl}
-use mathlib.Core.Bool.{Bool, true, false, not, cond, false≢true}
+use mathlib.Core.Bool.{Bool, true, false, cond}
 use Prim.Native.Nat.{ℕ, _+_, _*_, _^_, _≤_}
-use native.Mathlib.Nat.{le-trans}
 use native.Mathlib.Omega.{arith}
 use lib.Dec.{T, lit≤}
-use lib.Ieee.{Float, nan, inf, fin, binary64, neg, ofBits, le, lt, eq, fits}
-use lib.Ieee.Scale.{finite}
+use lib.Ieee.{Float, binary64, neg, ofBits, fits}
 use Rattle.float.specs.Units.{U, Is}
-use Rattle.float.specs.Helpers.{nought, one, sizeOf}
-use Rattle.float.proofs.Units.{Held, held}
-use Rattle.float.proofs.Sizes.{size-is}
-use Rattle.float.proofs.Signed.{val-le}
+use Rattle.float.specs.Helpers.{nought}
+use Rattle.float.proofs.Sizes.{parts-size-le}
+use Rattle.float.proofs.UpTo.{up-to-more, up-to-le, double-up-to}
+use Rattle.float.proofs.Bounded.{Small, nought-small}
 use Rattle.geometry.specs.declared.Vec3.{Vec3}
 use Rattle.geometry.specs.declared.Turn.{Turn}
-use Rattle.geometry.specs.Turn.{turnOf}
-use Rattle.geometry.proofs.TurnPair.{turn-pair}
-use Rattle.geometry.specs.Direction.{allFinite}
+use Rattle.geometry.specs.Turn.{rotateVector, rotatePoint}
+use Rattle.geometry.proofs.Bounded.{SmallVec, SmallTurn, vec-raise, vec-finite, turn-small, still-small, vec-add, vec-sub, vec-scale, turned-vector, turned-point}
 use Rattle.chain.specs.declared.Mount.{Mount}
 use Rattle.chain.specs.declared.Mount.the-variants.{Table, Head, Absent}
 use Rattle.chain.specs.declared.Spin.{Spin}
 use Rattle.chain.specs.declared.Prepared.{Prepared}
-use Rattle.chain.specs.Check.{within, longest}
-use Rattle.chain.specs.Forward.{still, swing, turnsOf, swingForth, tablesForth, byHead, byTable, headPoint, tablePoint, tableVector, reach, forwardCore, position}
+use Rattle.chain.specs.Check.{within, allWithin, longest}
+use Rattle.chain.specs.Forward.{swing, turnsOf, swingForth, tablesForth, byHead, byTable, headPoint, tablePoint, tableVector, reach, forwardCore, position}
 use Rattle.inverse.specs.Solutions.{origin}
 use Rattle.inverse.specs.Inverse.{poseAt, misses, jointsAt}
 use Rattle.inverse.specs.declared.Angles.{Angles}
@@ -32,30 +29,11 @@ use Rattle.inverse.specs.declared.RawAngles.the-variants as Raw
 use Rattle.path.specs.Exact.{reachedBy, candidate, positionFinite}
 use Rattle.path.specs.declared.Candidate.{Candidate}
 use Rattle.path.specs.declared.Candidate.the-variants as Candidate
-use Rattle.path.proofs.Bounded.{Small, SmallVec, SmallTurn, small-finite, raise, one-small, vec-add, vec-sub, vec-scale, turned-vector, turned-point}
 
 -- ---- a sine and a cosine are at most 2
-held-small : (y : Float) (k : Held y) → 2 ^ 50 * k .v ≤ (2 ^ 50 + 1) * U → Small 1 y
-held-small y k h = record { s = k .s; v = k .v; is = k .is; most = go (k .v) U h }
-  where
-    go : (v u : ℕ) → 2 ^ 50 * v ≤ (2 ^ 50 + 1) * u → v ≤ 2 ^ 1 * u
-    go v u l = omega arith
-
-turn-small : (degrees : Float) → SmallTurn (turnOf degrees)
-turn-small degrees =
-    let t = turn-pair degrees in
-    (held-small (turnOf degrees .sine) (t .sine) (t .sine-most), held-small (turnOf degrees .cosine) (t .cosine) (t .cosine-most))
-
-pub nought-small : Small 0 nought
-unfolding ofBits U
-nought-small = record { s = false; v = 0; is = (refl, refl); most = lit≤ tt }
-
 below-small : Small 0 (neg nought)
 unfolding ofBits neg U
 below-small = record { s = true; v = 0; is = (refl, refl); most = lit≤ tt }
-
-still-small : SmallTurn still
-still-small = (raise 0 1 nought (lit≤ tt) nought-small, raise 0 1 one (lit≤ tt) one-small)
 
 swing-small : (m : Mount) (angle : Float) → SmallTurn (swing m angle)
 swing-small Table angle = turn-small (neg angle)
@@ -68,67 +46,68 @@ forth-small Head angle = still-small
 forth-small Absent angle = still-small
 
 -- ---- what is not past 100,000 is below 2 ^ 17
-size-finite : (x : Float) → le (sizeOf x) longest ≡ true → T (finite x)
-unfolding sizeOf ofBits le lt eq
-size-finite nan h = absurd (false≢true h)
-size-finite (inf s) h = absurd (false≢true h)
-size-finite (fin s m e) h = tt
-
-unfoldable L : ℕ
-L = 100000 * 2 ^ 1074
-
-longest-is : Is longest false L
-unfolding ofBits U L
+longest-is : Is longest false (100000 * U)
+unfolding ofBits U
 longest-is = (refl, refl)
-
-L-most : L ≤ 2 ^ 17 * U
-unfolding L U
-L-most = lit≤ tt
 
 pub within-small : (x : Float) → T (fits binary64 x) → within x longest ≡ true → Small 17 x
 unfolding within
-within-small x f h =
-    let k = held x f (size-finite x h) in
-    record { s = k .s; v = k .v; is = k .is; most = le-trans (plain (k .v) L (val-le (sizeOf x) longest false false (k .v) L (size-is x (k .s) (k .v) (k .is)) longest-is h)) L-most }
-  where
-    plain : (v l : ℕ) → v + 0 ≤ l + 0 → v ≤ l
-    plain v l h = omega arith
+within-small x f h = up-to-more 100000 (2 ^ 17) x (lit≤ tt) (double-up-to 100000 longest longest-is x f h)
 
--- ---- one rotary
-pub record SmallSpin (s : Spin) : Type 0 where
-  pub axis : SmallVec 17 (s .axis)
-  pub pivot : SmallVec 17 (s .pivot)
+-- what is at most 2 is not past it
+small-within : (x : Float) → Small 1 x → within x longest ≡ true
+unfolding within
+small-within x X = let l = up-to-le 100000 longest longest-is x (up-to-more 2 100000 x (lit≤ tt) X) in parts-size-le x longest (l .0) (l .1)
 
-raise-vec : (k l : ℕ) (v : Vec3) → k ≤ l → SmallVec k v → SmallVec l v
-raise-vec k l v h A = (raise k l (v .x) h (A .0), raise k l (v .y) h (A .1), raise k l (v .z) h (A .2))
+pub vec-within : (v : Vec3) → SmallVec 1 v → allWithin v longest ≡ true
+unfolding allWithin
+vec-within v A = rw (small-within (v .x) (A .0), small-within (v .y) (A .1), small-within (v .z) (A .2))
 
-by-head : (m : Mount) (n : ℕ) (v w : Vec3) → SmallVec n v → SmallVec n w → SmallVec n (byHead m v w)
-by-head Table n v w A B = B
-by-head Head n v w A B = A
-by-head Absent n v w A B = B
+-- ---- one rotary; one that is absent moves nothing
+abbrev pub SmallSpin : Mount → Vec3 → Vec3 → Type 0
+SmallSpin Table axis pivot = SmallVec 17 axis × SmallVec 17 pivot
+SmallSpin Head axis pivot = SmallVec 17 axis × SmallVec 17 pivot
+SmallSpin Absent axis pivot = Unit {0}
 
-by-table : (m : Mount) (n : ℕ) (v w : Vec3) → SmallVec n v → SmallVec n w → SmallVec n (byTable m v w)
-by-table Table n v w A B = A
-by-table Head n v w A B = B
-by-table Absent n v w A B = B
+module _ (k : ℕ) (axis pivot v : Vec3) (t : Turn) (l : 17 ≤ k) (h : k ≤ 600) (R : SmallTurn t) (A : SmallVec k v) where
+  raised : (n : ℕ) → SmallVec (k + n) v
+  raised n = vec-raise k (k + n) v (omega arith) A
 
-module _ (k : ℕ) (s : Spin) (t : Turn) (v : Vec3) (l : 17 ≤ k) (h : k ≤ 600) (S : SmallSpin s) (R : SmallTurn t) (A : SmallVec k v) where
+  by-head-point : (m : Mount) → SmallSpin m axis pivot → SmallVec (k + 50) (byHead m (rotatePoint axis pivot v t) v)
+  by-head-point Head S = turned-point k axis pivot v t l h (S .0) (S .1) A R
+  by-head-point Table S = raised 50
+  by-head-point Absent S = raised 50
+
+  by-table-point : (m : Mount) → SmallSpin m axis pivot → SmallVec (k + 50) (byTable m (rotatePoint axis pivot v t) v)
+  by-table-point Table S = turned-point k axis pivot v t l h (S .0) (S .1) A R
+  by-table-point Head S = raised 50
+  by-table-point Absent S = raised 50
+
+  by-table-vector : (m : Mount) → SmallSpin m axis pivot → SmallVec (k + 46) (byTable m (rotateVector axis v t) v)
+  by-table-vector Table S = turned-vector k axis v (omega arith) (S .0) A t R
+  by-table-vector Head S = raised 46
+  by-table-vector Absent S = raised 46
+
+abbrev pub SmallOf : Spin → Type 0
+SmallOf s = SmallSpin (s .mount) (s .axis) (s .pivot)
+
+module _ (k : ℕ) (s : Spin) (t : Turn) (v : Vec3) (l : 17 ≤ k) (h : k ≤ 600) (S : SmallOf s) (R : SmallTurn t) (A : SmallVec k v) where
   head-point : SmallVec (k + 50) (headPoint s t v)
   unfolding headPoint
-  head-point = by-head (s .mount) (k + 50) _ v (turned-point k (s .axis) (s .pivot) v t l h (S .axis) (S .pivot) A R) (raise-vec k (k + 50) v (omega arith) A)
+  head-point = by-head-point k (s .axis) (s .pivot) v t l h R A (s .mount) S
 
   table-point : SmallVec (k + 50) (tablePoint s t v)
   unfolding tablePoint
-  table-point = by-table (s .mount) (k + 50) _ v (turned-point k (s .axis) (s .pivot) v t l h (S .axis) (S .pivot) A R) (raise-vec k (k + 50) v (omega arith) A)
+  table-point = by-table-point k (s .axis) (s .pivot) v t l h R A (s .mount) S
 
   table-vector : SmallVec (k + 46) (tableVector s t v)
   unfolding tableVector
-  table-vector = by-table (s .mount) (k + 46) _ v (turned-vector k (s .axis) v (omega arith) (S .axis) A t R) (raise-vec k (k + 46) v (omega arith) A)
+  table-vector = by-table-vector k (s .axis) (s .pivot) v t l h R A (s .mount) S
 
 -- ---- the chain
 pub record SmallChain (p : Prepared) : Type 0 where
-  pub first : SmallSpin (p .first)
-  pub second : SmallSpin (p .second)
+  pub first : SmallOf (p .first)
+  pub second : SmallOf (p .second)
   pub spindle : SmallVec 17 (p .spindle)
 
 module _ (p : Prepared) (angles : Angles) (P : SmallChain p) where
@@ -158,14 +137,6 @@ module _ (p : Prepared) (angles : Angles) (P : SmallChain p) where
       (table-vector 222 (p .second) _ _ (lit≤ tt) (lit≤ tt) (P .second) (forth-small (p .second .mount) (angles .a1))
       (vec-sub 17 220 220 222 tip (poseAt p angles nought .tip) (lit≤ tt) (lit≤ tt) (lit≤ tt) (lit≤ tt) A tip-small))
 
-true-of : (b : Bool) → T b → b ≡ true
-true-of true h = refl
-true-of false h = absurd h
-
-all-finite : (k : ℕ) (v : Vec3) → SmallVec k v → allFinite v ≡ true
-unfolding allFinite
-all-finite k v A = rw (true-of (finite (v .x)) (small-finite k (v .x) (A .0)), true-of (finite (v .y)) (small-finite k (v .y) (A .1)), true-of (finite (v .z)) (small-finite k (v .z) (A .2)))
-
 -- ---- the law
 module _ (p : Prepared) (target tip : Vec3) (P : SmallChain p) (A : SmallVec 17 tip) where
   reached-finite : (angles : Angles) → positionFinite (reachedBy p target tip angles) ≡ true
@@ -174,7 +145,7 @@ module _ (p : Prepared) (target tip : Vec3) (P : SmallChain p) (A : SmallVec 17 
     where
       go : (b : Bool) → positionFinite (cond b Candidate.Nothing (Candidate.At (jointsAt p angles tip (poseAt p angles nought .tip)))) ≡ true
       go true = refl
-      go false = all-finite 314 (jointsAt p angles tip (poseAt p angles nought .tip) .xyz) (position-small p angles P tip A)
+      go false = vec-finite 314 (jointsAt p angles tip (poseAt p angles nought .tip) .xyz) (position-small p angles P tip A)
 
   pub candidate-finite : (raw : RawAngles) → positionFinite (candidate p target tip raw) ≡ true
   candidate-finite (Raw.At angles) = reached-finite angles

@@ -54,7 +54,7 @@ use Rattle.path.specs.declared.SingularFrame.{SingularFrame}
 use Rattle.path.specs.declared.Start.{Start}
 
 -- ---- of the joints of an answer
-abbrev Holds : (Joints → Type 0) → PoseAnswer → Type 0
+abbrev pub Holds : (Joints → Type 0) → PoseAnswer → Type 0
 Holds P (At j) = P j
 Holds P (Refused r) = Unit {0}
 
@@ -141,7 +141,7 @@ cone-inside s f target tip previous =
 
 -- ---- one pose
 -- what holds of the lock and of the exact solution holds of the one that is taken
-locked-or-exact : (P : Joints → Type 0) (locked exact : PoseAnswer) → Holds P locked → Holds P exact → Holds P (lockedOrExact locked exact)
+pub locked-or-exact : (P : Joints → Type 0) (locked exact : PoseAnswer) → Holds P locked → Holds P exact → Holds P (lockedOrExact locked exact)
 unfolding lockedOrExact
 locked-or-exact P locked exact g h = cond-holds P (leavesLimits locked && succeeds exact) exact locked (λ e. h) (λ e. g)
 
@@ -154,7 +154,7 @@ frame-inside s target tip previous Regular = exact-inside s target tip previous
 
 -- what `P` the solution has, the pose has, with its angles within 36,000 degrees
 module _ (P : Joints → Type 0) (s : Setup) (previous : Angles) (solution : (target tip : Vec3) → Holds P (solveOne s target tip previous)) where
-  abbrev Turned : Joints → Type 0
+  abbrev pub Turned : Joints → Type 0
   Turned j = P j × (turnedWithin j ≡ true)
 
   turns-hold : (a : PoseAnswer) → Holds P a → Holds Turned (withTurns a)
@@ -175,7 +175,7 @@ module _ (P : Joints → Type 0) (s : Setup) (previous : Angles) (solution : (ta
   at-holds (At j) i h = h
   at-holds (Refused r) i h = h
 
-  pose-holds : (pose : ToolPose) (i : ℕ) → Holds Turned (poseAnswer s pose previous i)
+  pub pose-holds : (pose : ToolPose) (i : ℕ) → Holds Turned (poseAnswer s pose previous i)
   unfolding poseAnswer solvedPose
   pose-holds pose i = at-holds (solvedPose s pose previous) i (toward-holds (unitDirection (pose .axis)) (pose .tip) (refused _) tt)
 
@@ -281,7 +281,7 @@ both-finite j g h =
     rw (g, within-finite (j .a0) (t .0), within-finite (j .a1) (t .1))
 
 -- ---- all of it
-holds-map : (P Q : Joints → Type 0) → ((j : Joints) → P j → Q j) → (a : PoseAnswer) → Holds P a → Holds Q a
+pub holds-map : (P Q : Joints → Type 0) → ((j : Joints) → P j → Q j) → (a : PoseAnswer) → Holds P a → Holds Q a
 holds-map P Q f (At j) h = f j h
 holds-map P Q f (Refused r) h = tt
 

@@ -4,6 +4,7 @@ use native.Mathlib.Numerals.{add-one, towards-suc}
 use native.Mathlib.Nat.{sub-zero}
 use native.Mathlib.Omega.{arith}
 use mathlib.Core.Path.{_≡_, refl, sym, ap, _∙_}
+use mathlib.Core.Bool.{true}
 use mathlib.Core.List.{List, [], _∷_, _++_, append-nil}
 use lib.ListN.{length, take, drop, set, length-set, length-append}
 use lib.Seq.{sets, sets-eq, take-at, length-take-le, drop-drop}
@@ -17,6 +18,7 @@ use Rattle.refusal.specs.declared.Refusal.{Refusal}
 use Rattle.chain.specs.declared.Joints.{Joints}
 use Rattle.chain.specs.declared.Checked.the-variants as Checked
 use Rattle.inverse.specs.declared.Angles.{Angles}
+use Rattle.path.specs.Closest.{bounded}
 use Rattle.path.specs.Exact.{anglesOf}
 use Rattle.path.specs.Posing.{poseAnswer}
 use Rattle.path.specs.Solving.{PathAnswer, Along, AtPose, Kept, thenOn, poseFrom, poseIn, posesIn, jointNumbers, jointsOver, solvePoses, checkedIn, pathOver, refusalIn}
@@ -65,6 +67,7 @@ flat-one l j = rw (flat-append jointNumbers l (j ∷ []), append-nil)
 
 -- ---- the loop
 pub record Walking (s : Setup) (start : Angles) (l : List Float) (n : ℕ) (out₀ out : List Float) (previous : Angles) (i : ℕ) : Type 0 where
+  pub chain : bounded (s .chain) ≡ true
   pub done : List Joints
   pub within : i ≤ n
   pub count : n ≡ length l / 6
@@ -73,9 +76,9 @@ pub record Walking (s : Setup) (start : Angles) (l : List Float) (n : ℕ) (out�
   pub front : take (i * 5) out ≡ flat jointNumbers done
   pub whole : solvePoses s start 0 (posesIn l) ≡ before done (solvePoses s previous i (rows 6 poseFrom (n - i) (drop (i * 6) l)))
 
-pub walking-start : (s : Setup) (start : Angles) (l : List Float) (out : List Float) → length l / 6 * 5 ≤ length out → Walking s start l (length l / 6) out out start 0
+pub walking-start : (s : Setup) (start : Angles) (l : List Float) (out : List Float) → length l / 6 * 5 ≤ length out → bounded (s .chain) ≡ true → Walking s start l (length l / 6) out out start 0
 unfolding posesIn flat before
-walking-start s start l out h = record { done = []; within = omega arith; count = refl; room = h; long = refl; front = refl; whole = rw sub-zero }
+walking-start s start l out h b = record { chain = b; done = []; within = omega arith; count = refl; room = h; long = refl; front = refl; whole = rw sub-zero }
 
 next-pose : (l : List Float) (n i : ℕ) → i < n → rows 6 poseFrom (n - i) (drop (i * 6) l) ≡ poseIn l (i * 6) ∷ rows 6 poseFrom (n - (i + 1)) (drop ((i + 1) * 6) l)
 unfolding rows poseIn
@@ -92,6 +95,7 @@ module _ {s : Setup} {start : Angles} {l : List Float} {n : ℕ} {out₀ out : L
       let h : i * 5 + 5 ≤ length out = omega arith in
       let by5 : (i + 1) * 5 ≡ i * 5 + 5 = omega arith in
       record {
+        chain = g .chain;
         done = g .done ++ (j ∷ []);
         within = omega arith;
         count = g .count;

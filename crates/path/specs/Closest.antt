@@ -1,5 +1,6 @@
--- The closer of two solutions alone, where that is the answer: one is closer, it is reached, it is within the limits, and no number is so large that the other's position could overflow.
-use mathlib.Core.Bool.{Bool, true, false, not, cond, _&&_}
+-- The closer of two solutions alone, where that is the answer: one is closer, it is reached, and it is within the
+-- limits. This is asked of bounded numbers only, so that the other's position cannot overflow.
+use mathlib.Core.Bool.{Bool, true, cond, _&&_}
 use lib.Ieee as Ieee
 use lib.Ieee.{Float, binary64, ofBits}
 use Rattle.float.specs.Helpers.{nought}
@@ -7,8 +8,9 @@ use Rattle.root.specs.Root.{root}
 use Rattle.float.specs.TotalOrder.{before}
 use Rattle.geometry.specs.declared.Vec3.{Vec3}
 use Rattle.chain.specs.declared.Joints.{Joints}
+use Rattle.chain.specs.declared.Mount.{Mount}
+use Rattle.chain.specs.declared.Mount.the-variants.{Table, Head, Absent}
 use Rattle.chain.specs.declared.Prepared.{Prepared}
-use Rattle.chain.specs.declared.Spin.{Spin}
 use Rattle.chain.specs.Check.{allWithin, longest}
 use Rattle.inverse.specs.Wraps.{sameAngles}
 use Rattle.inverse.specs.declared.Angles.{Angles}
@@ -21,11 +23,17 @@ use Rattle.path.specs.declared.Candidate.{Candidate}
 use Rattle.path.specs.declared.Candidate.the-variants.{At, Nothing}
 use Rattle.path.specs.declared.Setup.{Setup}
 
-unfoldable pub spinWithin : Spin → Bool
-spinWithin s = allWithin (s .axis) longest && allWithin (s .pivot) longest
+-- what the checks before the first pose leave: no number of the spindle, and none of a rotary that moves, is past
+-- 100,000. No program computes this
+abbrev pub boundedSpin : Mount → Vec3 → Vec3 → Bool
+boundedSpin Table axis pivot = allWithin axis longest && allWithin pivot longest
+boundedSpin Head axis pivot = allWithin axis longest && allWithin pivot longest
+boundedSpin Absent axis pivot = true
 
-unfoldable pub chainWithin : Prepared → Bool
-chainWithin p = spinWithin (p .first) && spinWithin (p .second) && allWithin (p .spindle) longest
+unfoldable pub bounded : Prepared → Bool
+bounded p =
+    boundedSpin (p .first .mount) (p .first .axis) (p .first .pivot) && boundedSpin (p .second .mount) (p .second .axis) (p .second .pivot)
+    && allWithin (p .spindle) longest
 
 -- the joints at other angles
 abbrev pub turnedTo : Joints → Angles → Joints
@@ -67,9 +75,6 @@ closer s target tip previous one two =
 
 abbrev pub closestAlone : Setup → Vec3 → Vec3 → Angles → RawAngles → RawAngles → Candidate
 closestAlone s target tip previous (Raw.At one) (Raw.At two) =
-    cond (sameAngles one two) Nothing
-    (cond (not (chainWithin (s .chain))) Nothing
-    (cond (not (allWithin tip longest)) Nothing
-    (closer s target tip previous one two)))
+    cond (sameAngles one two) Nothing (closer s target tip previous one two)
 closestAlone s target tip previous (Raw.At one) Raw.Nothing = Nothing
 closestAlone s target tip previous Raw.Nothing two = Nothing

@@ -2,8 +2,8 @@
 use Prim.Native.Nat.{ℕ}
 use mathlib.Core.Path.{_≡_}
 use mathlib.Core.Bool.{true, false}
-use mathlib.Core.List.{List, [], _∷_}
 use lib.Dec.{eqb}
+use Rattle.lists.specs.Each.{Each}
 use Rattle.float.specs.Helpers.{nought}
 use Rattle.chain.specs.declared.Joints.{Joints}
 use Rattle.chain.specs.declared.Kinematics.{Kinematics}
@@ -18,10 +18,6 @@ pub record Served (k : Kinematics) (j : Joints) : Type 0 where
   pub limits : inside (boundsOf k) j ≡ true
   pub turns : turnedWithin j ≡ true
   pub unused : eqb (k .count) 2 ≡ false → j .a1 ≡ nought
-
-abbrev pub Each : {A : Type 0} → (A → Type 0) → List A → Type 0
-Each P [] = Unit {0}
-Each P (x ∷ l) = P x × Each P l
 
 -- of every joint set, where nothing is refused
 abbrev pub OnPath : (Joints → Type 0) → PathAnswer → Type 0

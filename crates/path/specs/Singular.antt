@@ -1,4 +1,5 @@
--- The singular direction of a chain of two: one rotary on the spindle within 1e-6 of its cosine, the other within 1e-3 of square to it. And the cone about it and about the opposite direction.
+-- The singular direction of a chain of two: one rotary on the spindle within 1e-6 of its cosine, the other within 1e-3
+-- of square to it. And the cone about it and about the opposite direction.
 use mathlib.Core.Bool.{Bool, true, false, cond, _&&_}
 use lib.Ieee as Ieee
 use lib.Ieee.{Float, binary64, ofBits}
@@ -22,15 +23,16 @@ millionth = ofBits binary64 0x3eb0_c6f7_a0b5_ed8d
 abbrev pub thousandth : Float
 thousandth = ofBits binary64 0x3f50_624d_d2f1_a9fc
 
-unfoldable pub inSense : Vec3 → Vec3 → Vec3
-inSense axis sense = cond (Ieee.le nought (dot axis sense)) axis (scale axis minusOne)
+-- the axis, or its opposite where its part along a direction is below zero
+unfoldable pub inSense : Vec3 → Float → Vec3
+inSense axis along = cond (Ieee.le nought along) axis (scale axis minusOne)
 
 -- ---- the frame
 unfoldable pub frameOn : Bool → Vec3 → Vec3 → Float → Float → Frame
 frameOn onSecond axis spindle best other =
     cond (Ieee.lt best (minus one millionth)) Regular
     (cond (Ieee.lt thousandth other) Regular
-    (Singular (record { «on_second» = onSecond; direction = inSense axis spindle })))
+    (Singular (record { «on_second» = onSecond; direction = inSense axis (dot axis spindle) })))
 
 -- the rotary that is nearer to the spindle, the first of two that are as near
 unfoldable pub frameOfTwo : Vec3 → Vec3 → Vec3 → Frame
@@ -71,4 +73,4 @@ unfoldable pub wellOutside : Float → Float → Bool
 wellOutside c cone = Ieee.le cone tenDegrees && Ieee.le (sizeOf c) wide && Ieee.le leastSquare (times (minus one c) (plus one c))
 
 unfoldable pub nearestPole : Vec3 → Vec3 → Vec3
-nearestPole target direction = inSense direction target
+nearestPole target direction = inSense direction (dot target direction)

@@ -9,33 +9,9 @@ use crate::unwinding::inside;
 use crate::unwinding::rotary_square;
 use crate::unwinding::unwind_angles;
 use chain::Joints;
-use chain::Prepared;
-use chain::Spin;
-use chain::all_within;
 use geometry::Vec3;
 use inverse::Angles;
 use inverse::RawAngles;
-
-fn spin_within(s: Spin) -> bool
-    ensures { λ r. ⌜ r ≡ S.spinWithin s ⌝ }
-{
-    if all_within(s.axis, 100000.0) {
-        return all_within(s.pivot, 100000.0);
-    }
-    false
-}
-
-// No number of the chain is past 100,000.
-fn chain_within(p: Prepared) -> bool
-    ensures { λ r. ⌜ r ≡ S.chainWithin p ⌝ }
-{
-    if spin_within(p.first) {
-        if spin_within(p.second) {
-            return all_within(p.spindle, 100000.0);
-        }
-    }
-    false
-}
 
 // The joints at these angles, within the limits.
 fn kept_at(b: Bounds, j: Joints, angles: Angles) -> Candidate
@@ -132,12 +108,6 @@ pub fn closest_alone(
         return Candidate::Nothing;
     };
     if inverse::same_angles(first, second) {
-        return Candidate::Nothing;
-    }
-    if !chain_within(s.chain) {
-        return Candidate::Nothing;
-    }
-    if !all_within(tip, 100000.0) {
         return Candidate::Nothing;
     }
     closer(s, target, tip, previous, first, second)

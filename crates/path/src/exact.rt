@@ -1,6 +1,9 @@
 // Outside the cone: of the exact solutions, at most two, the closest to the joints before that stays on its branch and within the limits.
 ghost use mathlib.Core.Path.{_≡_};
+ghost use mathlib.Core.Bool.{true};
+ghost use Rattle.chain.specs.Check.{allWithin, longest};
 ghost use Rattle.path.specs.Exact as S;
+ghost use Rattle.path.specs.Closest.{bounded};
 use crate::Bounds;
 use crate::Candidate;
 use crate::PoseAnswer;
@@ -201,8 +204,10 @@ fn of_raw(
     of_positions(s.bounds, previous, first, second)
 }
 
-// `target` is a unit vector.
+// `target` is a unit vector. Of bounded numbers both solutions have a finite position, so that the closer one alone can
+// be the answer.
 pub fn exact_pose(s: Setup, target: Vec3, tip: Vec3, previous: Angles) -> PoseAnswer
+    requires { ⌜ (bounded (s .chain) ≡ true) × (allWithin tip longest ≡ true) ⌝ }
     ensures { λ r. ⌜ r ≡ S.exactPose s target tip previous ⌝ }
 {
     let raw = inverse::orientation_angles(s.chain, target, previous);

@@ -1,5 +1,8 @@
 // One pose of a path: its own checks, the cone or the exact solution, and the size of the angles. Which pose it is, is said here, once for every refusal.
 ghost use mathlib.Core.Path.{_≡_};
+ghost use mathlib.Core.Bool.{true};
+ghost use Rattle.chain.specs.Check.{allWithin, longest};
+ghost use Rattle.path.specs.Closest.{bounded};
 ghost use Rattle.path.specs.Posing as S;
 ghost use Rattle.path.specs.Locking.{coneSolution};
 ghost use Rattle.path.specs.Exact.{exactPose};
@@ -83,6 +86,7 @@ fn locked_or_exact(
     tip: Vec3,
     previous: Angles,
 ) -> PoseAnswer
+    requires { ⌜ (bounded (s .chain) ≡ true) × (allWithin tip longest ≡ true) ⌝ }
     ensures { λ r. ⌜ r ≡ S.lockedOrExact (coneSolution s f target tip previous) (exactPose s target tip previous) ⌝ }
 {
     let locked = cone_solution(s, f, target, tip, previous);
@@ -98,6 +102,7 @@ fn locked_or_exact(
 
 // Inside the cone locked, or exact where the lock leaves the limits; exact outside.
 fn solve_one(s: Setup, target: Vec3, tip: Vec3, previous: Angles) -> PoseAnswer
+    requires { ⌜ (bounded (s .chain) ≡ true) × (allWithin tip longest ≡ true) ⌝ }
     ensures { λ r. ⌜ r ≡ S.solveOne s target tip previous ⌝ }
 {
     let frame = s.frame;
@@ -134,6 +139,7 @@ fn with_turns(answer: PoseAnswer) -> PoseAnswer
 
 // The tip's numbers, then the solution. `target` is a unit vector.
 fn solved_tip(s: Setup, target: Vec3, tip: Vec3, previous: Angles) -> PoseAnswer
+    requires { ⌜ bounded (s .chain) ≡ true ⌝ }
     ensures { λ r. ⌜ r ≡ S.solvedTip s target tip previous ⌝ }
 {
     if !geometry::all_finite(tip) {
@@ -146,6 +152,7 @@ fn solved_tip(s: Setup, target: Vec3, tip: Vec3, previous: Angles) -> PoseAnswer
 }
 
 fn solved_pose(s: Setup, pose: ToolPose, previous: Angles) -> PoseAnswer
+    requires { ⌜ bounded (s .chain) ≡ true ⌝ }
     ensures { λ r. ⌜ r ≡ S.solvedPose s pose previous ⌝ }
 {
     let Direction::Unit(target) = geometry::unit_direction(pose.axis) else {
@@ -169,6 +176,7 @@ fn at_pose(answer: PoseAnswer, index: u64) -> PoseAnswer
 
 // The joints of a pose, continuous with the angles before it, or its refusal.
 pub fn pose_answer(s: Setup, pose: ToolPose, previous: Angles, index: u64) -> PoseAnswer
+    requires { ⌜ bounded (s .chain) ≡ true ⌝ }
     ensures { λ r. ⌜ r ≡ S.poseAnswer s pose previous index ⌝ }
 {
     at_pose(solved_pose(s, pose, previous), index)

@@ -10,11 +10,11 @@ use geometry::dot;
 use geometry::scale;
 use trig::Answer;
 
-// The axis in the sense of the other direction.
-fn in_sense(axis: Vec3, sense: Vec3) -> Vec3
-    ensures { λ r. ⌜ r ≡ S.inSense axis sense ⌝ }
+// The axis in the sense of a direction, by its part along that.
+fn in_sense(axis: Vec3, along: f64) -> Vec3
+    ensures { λ r. ⌜ r ≡ S.inSense axis along ⌝ }
 {
-    if 0.0 <= dot(axis, sense) {
+    if 0.0 <= along {
         return axis;
     }
     scale(axis, -1.0)
@@ -30,7 +30,7 @@ fn frame_on(on_second: bool, axis: Vec3, spindle: Vec3, best: f64, other: f64) -
     if 1e-3 < other {
         return Frame::Regular;
     }
-    let direction = in_sense(axis, spindle);
+    let direction = in_sense(axis, dot(axis, spindle));
     Frame::Singular(SingularFrame {
         on_second,
         direction,
@@ -101,5 +101,5 @@ pub fn in_singular_cone(f: SingularFrame, cone: f64, axis: Vec3) -> bool
 pub fn nearest_pole(target: Vec3, direction: Vec3) -> Vec3
     ensures { λ r. ⌜ r ≡ S.nearestPole target direction ⌝ }
 {
-    in_sense(direction, target)
+    in_sense(direction, dot(target, direction))
 }

@@ -1,9 +1,12 @@
 // A path over lent numbers: six for a pose, five for a joint set. What is refused before the first pose keeps all that is lent; what is refused at a pose leaves +0.0 in the whole output.
 ghost use Prim.Native.Nat.{_+_, _*_, _/_, _≤_};
 ghost use mathlib.Core.Path.{_≡_};
+ghost use mathlib.Core.Bool.{true};
 ghost use lib.ListN.{length, take};
 ghost use Rattle.float.specs.Helpers.{nought};
 ghost use Rattle.lists.specs.Padding.{padded};
+ghost use Rattle.chain.specs.Prepared.{prepared};
+ghost use Rattle.path.specs.Closest.{bounded};
 ghost use Rattle.path.specs.Solving as S;
 ghost use Rattle.path.specs.Promise.{OnPath, Served};
 use crate::PoseAnswer;
@@ -170,7 +173,7 @@ fn refusal_in(answer: PoseAnswer) -> Checked
 
 // Each pose in turn.
 fn solve_poses(s: Setup, start: Angles, poses: &[f64], out: &mut [f64]) -> Checked
-    requires { ⌜ length (now poses) / 6 * 5 ≤ length (now out) ⌝ }
+    requires { ⌜ (length (now poses) / 6 * 5 ≤ length (now out)) × (bounded (s .chain) ≡ true) ⌝ }
     ensures checked { λ r. ⌜ r ≡ S.checkedIn (S.solvePoses s start 0 (S.posesIn (now (poses .entry)))) ⌝ }
     ensures lent { λ r. ⌜ now (out .exit) ≡ S.pathOver (S.solvePoses s start 0 (S.posesIn (now (poses .entry)))) (now (out .entry)) ⌝ }
 {
@@ -200,7 +203,7 @@ pub fn solve_checked(
     cone: f64,
     out: &mut [f64],
 ) -> Checked
-    requires { ⌜ length (now poses) / 6 * 5 ≤ length (now out) ⌝ }
+    requires { ⌜ (length (now poses) / 6 * 5 ≤ length (now out)) × (bounded (prepared k) ≡ true) ⌝ }
     ensures checked { λ r. ⌜ r ≡ S.checkedIn (S.solveChecked k (now (poses .entry)) start cone) ⌝ }
     ensures lent { λ r. ⌜ now (out .exit) ≡ S.pathOver (S.solveChecked k (now (poses .entry)) start cone) (now (out .entry)) ⌝ }
 {

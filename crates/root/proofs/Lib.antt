@@ -8,3 +8,4 @@ pub mod RootNearby
 pub mod RootGuess
 pub mod RootQuick
 pub mod RootGap
+pub mod RootSizes

@@ -284,7 +284,7 @@ add-above (fin s m e) (inf true) tx ty nx ny = absurd (true≢false (sym ny ∙ 
 add-above (fin s m e) (inf false) tx ty nx ny = both-top (fin s m e) (inf false) (add binary64 (fin s m e) (inf false)) (add-top (fin s m e) nx) nx ny
 add-above (fin s m e) (fin t n d) tx ty nx ny = fin-add (fin s m e) (fin t n d) tx ty tt tt nx ny
 
-sq-is : (d : Float) (s : Bool) (a : ℕ) → Is d s a → mul binary64 d d ≡ round binary64 false (a * a) (U * U)
+pub sq-is : (d : Float) (s : Bool) (a : ℕ) → Is d s a → mul binary64 d d ≡ round binary64 false (a * a) (U * U)
 sq-is d s a i = mul-is d d s s a a i i ∙ ap (λ (z : Bool). round binary64 z (a * a) (U * U)) (same s)
   where
     same : (s : Bool) → unlike s s ≡ false

@@ -6,26 +6,28 @@ use native.Mathlib.Nat.{mul-le-mul, mul-pos}
 use native.Mathlib.Omega.{arith}
 use lib.Dec.{T, lit≤, lit<}
 use lib.IntN.{ℤ, pos}
-use lib.Ieee.{Float, nan, inf, fin, binary64, up, down, add, sub, mul, neg, ofBits, le, fits}
-use lib.Ieee.Fits.{down-pos, mul-fits, round-fits, nan-fits, inf-fits}
+use lib.Ieee.{Float, nan, inf, fin, binary64, up, down, add, sub, mul, neg, ofBits, le, isNan, fits}
+use lib.Ieee.Fits.{down-pos, mul-fits}
 use lib.Ieee.Order.{le-of-values}
 use Rattle.float.specs.Units.{U, Is}
 use Rattle.float.proofs.Rounding.{W, U-is, U-pos, W-pos, Rounded, add-rounded, sub-rounded, mul-rounded}
 use Rattle.float.proofs.Units.{held}
 use Rattle.float.proofs.Order.{neg-le}
-use Rattle.root.specs.Root.{root, rootUnits}
+use Rattle.root.specs.Root.{root}
 use Rattle.root.proofs.RootCases.{above-of}
 use Rattle.root.proofs.RootOrder.{root-rooted}
+use Rattle.root.proofs.RootSizes.{root-fits}
 use Rattle.trig.specs.Kernel.{plusZero, one}
 use lib.Ieee.Scale.{finite}
-use Rattle.float.specs.Helpers.{negative}
+use Rattle.float.specs.Helpers.{negative, clampUnit}
 use Rattle.trig.specs.Direction.{pi}
 use Rattle.trig.specs.Arctangent.{angleFloat, arctangentOf}
 use Rattle.trig.specs.Arccosine.{sineOfCosine, cosineRange, arccosineOf, ArccosineValue, ArccosineAnswer}
 use Rattle.trig.specs.declared.Answer.{Answer}
 use Rattle.trig.specs.declared.Answer.the-variants.{Value, OutOfRange}
 use Rattle.trig.proofs.Choices.{is-true, pick, drop, chosen, both-true}
-use Rattle.trig.proofs.SumError.{one-is}
+use Rattle.float.proofs.UpTo.{UpTo, one-is, up-to-neg, up-to-le}
+use Rattle.float.proofs.Bounded.{clamp-small}
 use Rattle.trig.proofs.GridAngle.{le-units}
 use Rattle.trig.proofs.ArctangentLaws.{angle-right, arctangent-both}
 
@@ -142,24 +144,15 @@ from-zero (fin false m e) a b n = le-of-values (fin false 0 (pos 0)) (fin false 
     go : (a d : ℕ) → 0 * d ≤ a * 1
     go a d = omega arith
 
-root-is-fit : (x : Float) → T (fits binary64 x) → T (fits binary64 (root x))
-unfolding root rootUnits
-root-is-fit nan f = nan-fits binary64
-root-is-fit (inf true) f = nan-fits binary64
-root-is-fit (inf false) f = inf-fits binary64 false
-root-is-fit (fin s zero e) f = f
-root-is-fit (fin true (suc m) e) f = nan-fits binary64
-root-is-fit (fin false (suc m) e) f = round-fits binary64 false _ _
-
 module _ (c : Float) (f : T (fits binary64 c)) (h : cosineRange c ≡ true) where
-  root-fits : T (fits binary64 (sineOfCosine c))
+  pub sine-fits : T (fits binary64 (sineOfCosine c))
   unfolding sineOfCosine
-  root-fits = root-is-fit (mul binary64 (sub binary64 one c) (add binary64 one c)) (mul-fits binary64 _ _)
+  sine-fits = root-fits (mul binary64 (sub binary64 one c) (add binary64 one c)) (mul-fits binary64 _ _)
 
   pub arccosine-value : ArccosineValue c (angleFloat (sineOfCosine c) c)
   arccosine-value =
       let s = sine-sound c f h in
-      let d = angle-right (sineOfCosine c) c (s .0) (range-finite c h) root-fits f in
+      let d = angle-right (sineOfCosine c) c (s .0) (range-finite c h) sine-fits f in
       record { least = from-zero (angleFloat (sineOfCosine c) c) (d .least) (d .greatest) (d .sign ∙ s .1); greatest = d .greatest; positive = d .sign ∙ s .1; direction = d }
 
   pub arccosine-is : Value (angleFloat (sineOfCosine c) c) ≡ arctangentOf (sineOfCosine c) c
@@ -177,3 +170,22 @@ arccosine-served c y a h e g = g ∙ ap (λ (z : Float). arctangentOf z c) e ∙
 pub arccosine-refused : (c : Float) → cosineRange c ≡ false → OutOfRange ≡ arccosineOf c
 unfolding arccosineOf
 arccosine-refused c h = drop (cosineRange c) _ _ h
+
+-- ---- a clamped number is a cosine, and so is its opposite
+range-of : (c : Float) → UpTo 1 c → cosineRange c ≡ true
+unfolding cosineRange
+range-of c C = let p = up-to-le 1 one whole-one c C in rw (p .1, p .0)
+  where
+    once : (u : ℕ) → u ≡ 1 * u
+    once u = omega arith
+
+    whole-one : Is one false (1 * U)
+    whole-one = subst (λ (z : ℕ). Is one false z) (once U) one-is
+
+pub clamped-range : (x : Float) → T (fits binary64 x) → finite x ≡ true → (cosineRange (clampUnit x) ≡ true) × (cosineRange (neg (clampUnit x)) ≡ true)
+clamped-range x f h = let C = clamp-small x f (number x h) in (range-of (clampUnit x) C, range-of (neg (clampUnit x)) (up-to-neg 1 (clampUnit x) C))
+  where
+    number : (x : Float) → finite x ≡ true → isNan x ≡ false
+    number nan h = absurd (true≢false (sym h))
+    number (inf s) h = unfold isNan in refl
+    number (fin s m e) h = unfold isNan in refl

@@ -49,7 +49,7 @@ module _ (i : ℕ) (small : i ≤ 7074237752028440) where
       chosen (Lands 2 true i) (ltb ((28296951008113761 - i) / 4) 5305678314021331) _ _ (λ h. back-least i small (ltb→lt _ _ (is-true (ltb ((28296951008113761 - i) / 4) 5305678314021331) h)))
       (λ h. back-most i small (nltb→le _ _ (not-true (ltb ((28296951008113761 - i) / 4) 5305678314021331) h)))
 
-start-fits : (t : Float) → T (fits binary64 (startFloat t))
+pub start-fits : (t : Float) → T (fits binary64 (startFloat t))
 unfolding startFloat arc
 start-fits t = chosen (λ (y : Float). T (fits binary64 y)) (lt (ofBits binary64 0x3fda_8279_99fc_ef32) t) _ _ (λ h. add-fits binary64 _ _) (λ h. mul-fits binary64 _ _)
 

@@ -17,7 +17,7 @@ use Rattle.trig.proofs.Scaling.{units-of}
 use Rattle.trig.specs.Fraction.{Frac, negated, product, total, difference, Small, Positive, worth}
 use Rattle.trig.specs.Angle.{wave, sine, cosine}
 use Rattle.trig.specs.Arctangent.{halfPi, piFloat, quarterFloat}
-use Rattle.trig.proofs.SumError.{one-is}
+use Rattle.float.proofs.UpTo.{one-is}
 use Rattle.trig.proofs.HornerForm.{num}
 use Rattle.trig.proofs.WaveLaws.{zero-test}
 use Rattle.trig.proofs.WaveError.{wave-odd, wave-even, le-cross, zero-of, is-zero, Zero}

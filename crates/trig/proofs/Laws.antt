@@ -6,10 +6,12 @@ use Prim.Native.Nat.{zero}
 use lib.Dec.{T}
 use lib.IntN.{pos}
 use lib.Ieee.{Float, nan, inf, fin, binary64, round, add, sub, mul, neg, ofBits, le, lt, eq, fits}
+use lib.Ieee.Fits.{neg-fits}
+use Rattle.float.proofs.Bounded.{clamp-fits}
 use Rattle.root.specs.Root.{root}
 use Rattle.trig.specs.Kernel.{plusZero, one}
 use lib.Ieee.Scale.{finite}
-use Rattle.float.specs.Helpers.{negative}
+use Rattle.float.specs.Helpers.{negative, clampUnit}
 use Rattle.trig.specs.Direction.{pi, Direction}
 use Rattle.trig.specs.Waves.{sineFloat, cosineFloat, served, sineOf, cosineOf, Sized, SineValue, CosineValue, SineAnswer, CosineAnswer}
 use Rattle.trig.specs.Arctangent.{halfPi, piFloat, levelFloat, upperFloat, angleFloat, arctangentOf, ArctangentAnswer}
@@ -56,11 +58,17 @@ module _ (x y : Float) (f : T (fits binary64 x)) where
   cosine-size e = cosine-value e .1 .size
 
 -- what is served has an answer, and nothing else
+pub sine-is : (x : Float) → served x ≡ true → sineOf x ≡ Value (sineFloat x)
+sine-is x h = sym (Waves.sine-served x h)
+
+pub cosine-is : (x : Float) → served x ≡ true → cosineOf x ≡ Value (cosineFloat x)
+cosine-is x h = sym (Waves.cosine-served x h)
+
 pub sine-served : (x : Float) → served x ≡ true → (y : Float) × (sineOf x ≡ Value y)
-sine-served x h = (sineFloat x, sym (Waves.sine-served x h))
+sine-served x h = (sineFloat x, sine-is x h)
 
 pub cosine-served : (x : Float) → served x ≡ true → (y : Float) × (cosineOf x ≡ Value y)
-cosine-served x h = (cosineFloat x, sym (Waves.cosine-served x h))
+cosine-served x h = (cosineFloat x, cosine-is x h)
 
 pub sine-refused : (x : Float) → served x ≡ false → sineOf x ≡ OutOfRange
 sine-refused x h = sym (Waves.sine-refused x h)
@@ -123,8 +131,11 @@ module _ (y x r : Float) (f : T (fits binary64 y)) (g : T (fits binary64 x)) (e 
       go (inf false) a b = absurd (unfold le in b)
       go (fin s m d) a b = refl
 
+pub arctangent-is : (y x : Float) → finite y ≡ true → finite x ≡ true → arctangentOf y x ≡ Value (angleFloat y x)
+arctangent-is y x F G = sym (Arctangent.arctangent-both y x (angleFloat y x) F refl G refl refl)
+
 pub arctangent-served : (y x : Float) → finite y ≡ true → finite x ≡ true → (r : Float) × (arctangentOf y x ≡ Value r)
-arctangent-served y x F G = (angleFloat y x, sym (Arctangent.arctangent-both y x (angleFloat y x) F refl G refl refl))
+arctangent-served y x F G = (angleFloat y x, arctangent-is y x F G)
 
 -- odd in y, in every bit
 pub arctangent-odd : (y x : Float) → arctangentOf (neg y) x ≡ negatedAnswer (arctangentOf y x)
@@ -149,8 +160,18 @@ module _ (c r : Float) (f : T (fits binary64 c)) (e : arccosineOf c ≡ Value r)
   pub arccosine-greatest : T (le r pi)
   arccosine-greatest = arccosine-value .1 .greatest
 
+pub arccosine-is : (c : Float) → T (fits binary64 c) → cosineRange c ≡ true → arccosineOf c ≡ Value (angleFloat (sineOfCosine c) c)
+arccosine-is c f h = sym (Arccosine.arccosine-is c f h ∙ unfold arccosineOf in pick (cosineRange c) _ _ h)
+
 pub arccosine-served : (c : Float) → T (fits binary64 c) → cosineRange c ≡ true → (r : Float) × (arccosineOf c ≡ Value r)
-arccosine-served c f h = (angleFloat (sineOfCosine c) c, sym (Arccosine.arccosine-is c f h ∙ unfold arccosineOf in pick (cosineRange c) _ _ h))
+arccosine-served c f h = (angleFloat (sineOfCosine c) c, arccosine-is c f h)
+
+-- of a clamped number and of its opposite it never refuses
+pub clamped-arccosines : (x : Float) → T (fits binary64 x) → finite x ≡ true
+    → ((r : Float) × (arccosineOf (clampUnit x) ≡ Value r)) × ((r : Float) × (arccosineOf (neg (clampUnit x)) ≡ Value r))
+clamped-arccosines x f h =
+    let r = Arccosine.clamped-range x f h in
+    (arccosine-served (clampUnit x) (clamp-fits x f) (r .0), arccosine-served (neg (clampUnit x)) (neg-fits binary64 (clampUnit x) (clamp-fits x f)) (r .1))
 
 -- acos 1 = +0, acos (-1) is the double nearest to pi, and acos (+0) and acos (-0) are the double below pi / 2
 pub arccosine-one : arccosineOf one ≡ Value plusZero

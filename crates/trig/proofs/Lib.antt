@@ -1,5 +1,5 @@
--- The proofs. What other crates cite is in Laws, KernelLaws, Slope, DegreeBack, DegreeSizes and DegreeWide; the rest
--- leads there.
+-- The proofs. What other crates cite is in Choices, Laws, KernelLaws, Slope, DegreeBack, DegreeSizes, DegreeWide and
+-- AngleDegrees; the rest leads there.
 -- Tests and tables.
 pub mod Choices
 pub mod Table
@@ -45,4 +45,6 @@ pub mod Denominators
 -- Arccosine.
 pub mod ArccosineLaws
 pub mod Laws
+-- Sizes of angles, in degrees and in radians.
+pub mod AngleDegrees
 pub mod Examples

@@ -9,10 +9,11 @@ use native.Mathlib.Omega.{arith}
 use lib.Dec.{lit≤, lit<}
 use lib.Pow.{pow-pos}
 use lib.IntN.{pos}
-use lib.Ieee.{Float, nan, inf, fin, binary64, up, down, sub, mul, round, ofInt, ofBits}
+use lib.Ieee.{Float, nan, inf, fin, binary64, up, down, sub, mul, round, ofInt}
 use lib.Ieee.Exact.{HasValue, round-exact}
 use Rattle.trig.proofs.HornerForm.{num, den, num-le, den-pos, two-le}
 use Rattle.float.proofs.Units.{le-or-lt}
+use Rattle.float.proofs.UpTo.{one-is}
 use Rattle.float.proofs.Rounding.{Within}
 use Rattle.float.specs.Units.{U, Is}
 use Rattle.float.proofs.Rounding.{W, U-is, U-pos, W-pos, Rounded, mul-rounded, round-rounded, sub-rounded}
@@ -124,13 +125,6 @@ int-is c h =
     subst (λ (z : ℕ). HasValue (ofInt binary64 (pos c)) false (c * 2 ^ 1074) z) (one-times (2 ^ 1074))
     (times (ofInt binary64 (pos c)) false c 1 (2 ^ 1074)
     (unfold ofInt in round-exact binary64 false c 1 c 1074 (lit< tt) h (lt-of-lt-of-le (fine c (2 ^ 1074) h (pow-pos 1074)) (lit≤ tt)) (in-order c (2 ^ 1074))))
-
-pub one-is : Is one false U
-unfolding ofBits
-one-is = (refl, go U)
-  where
-    go : (u : ℕ) → 1 * 1 * u ≡ u * 1
-    go u = omega arith
 
 recip-rounded : (c : ℕ) → 2 ≤ c → Rounded (reciprocal c) false U c (8 * W)
 unfolding reciprocal

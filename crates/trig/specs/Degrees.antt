@@ -34,7 +34,8 @@ cosineAt nan = nothing
 cosineAt (inf s) = nothing
 cosineAt (fin s m e) = degreeWave s 1 (m * up e) (down e)
 
--- |x| ≤ 45,000: false of a NaN. No entry asks for a turn beyond that
+-- |x| ≤ 45,000: false of a NaN. No entry asks for a turn beyond that: the files NeverFallback.antt of chain, inverse,
+-- path and divide prove it
 abbrev pub widest : Float
 widest = ofBits binary64 0x40e5_f900_0000_0000
 

@@ -2,7 +2,8 @@ use borrow.Author.Needs.{needs}
 use mathlib.Core.Path.{refl, sym, _∙_}
 use native.Mathlib.Omega.{arith}
 use lib.ListN.{length}
-use Rattle.divide.proofs.BothCalls.{room-for, both-kept, both-at-pose, both-divided}
+use Rattle.chain.proofs.UnitAxes.{FitAxes}
+use Rattle.divide.proofs.BothCalls.{room-for, chain-for, both-kept, both-at-pose, both-divided}
 use Rattle.divide.proofs.both.solve_and_divide.Statement.{statement}
 use Rattle.divide.proofs.both.solve_and_divide.Tie as tie
 
@@ -18,8 +19,21 @@ returns c = let a = c .before .before .before .before .before .before .before .a
 enum-told : tie.Need-enum-told
 enum-told c = search needs
 
+axes-fit : (c : tie.Start) → FitAxes (c .args .k)
+axes-fit c =
+    let first = c .good .0 .1 .1 .1 .0 .1 .1 .1 .1 .1 .0 in
+    let second = c .good .0 .1 .1 .1 .1 .0 .1 .1 .1 .1 .1 .0 in
+    let spindle = c .good .0 .1 .1 .1 .1 .1 .0 in
+    ((search (needs, first), search (needs, first), search (needs, first)), (search (needs, second), search (needs, second), search (needs, second)), (search (needs, spindle), search (needs, spindle), search (needs, spindle)))
+
 solve-checked-requires : tie.Need-solve-checked-requires
-solve-checked-requires c κs = let a = c .before .before .before .before .before .before .before .args in room-for (a .k) (a .given .now) (a .start) (a .cone) (length (a .poses .now)) (length (a .joints .now)) (sym (c .before .before .before .both-check .ensures) ∙ c .before .enum-told .given .1)
+solve-checked-requires c κs =
+    let begun = c .before .before .before .before .before .before .before in
+    let a = begun .args in
+    let e = sym (c .before .before .before .both-check .ensures) ∙ c .before .enum-told .given .1 in (
+      room-for (a .k) (a .given .now) (a .start) (a .cone) (length (a .poses .now)) (length (a .joints .now)) e,
+      chain-for (a .k) (a .given .now) (a .start) (a .cone) (length (a .poses .now)) (length (a .joints .now)) (axes-fit begun) e,
+    )
 
 enum-known-solved : tie.Need-enum-known-solved
 enum-known-solved c = search needs

@@ -26,23 +26,11 @@ same-angles-requires c κs = search needs
 returns-3 : tie.Need-returns-3
 returns-3 c = rw (c .before .before .before .before .before .before .one .given .1, c .before .before .before .two .given .1, rw (c .before .same-angles .ensures) at (c .if1 .taken))
 
-chain-within-requires : tie.Need-chain-within-requires
-chain-within-requires c κs = search needs
-
-returns-4 : tie.Need-returns-4
-returns-4 c = rw (c .before .before .before .before .before .before .before .before .one .given .1, c .before .before .before .before .before .two .given .1, rw (c .before .before .before .same-angles .ensures) at (c .before .before .if1 .left), rw (c .before .chain-within .ensures) at (c .if2 .taken))
-
-all-within-requires : tie.Need-all-within-requires
-all-within-requires c κs = search needs
-
-returns-5 : tie.Need-returns-5
-returns-5 c = rw (c .before .before .before .before .before .before .before .before .before .before .one .given .1, c .before .before .before .before .before .before .before .two .given .1, rw (c .before .before .before .before .before .same-angles .ensures) at (c .before .before .before .before .if1 .left), rw (c .before .before .before .chain-within .ensures) at (c .before .before .if2 .left), rw (c .before .all-within .ensures) at (c .if3 .taken))
-
 closer-requires : tie.Need-closer-requires
 closer-requires c κs = search needs
 
-returns-6 : tie.Need-returns-6
-returns-6 c = rw (c .closer .ensures, c .before .before .before .before .before .before .before .before .before .before .before .one .given .1, c .before .before .before .before .before .before .before .before .two .given .1, rw (c .before .before .before .before .before .before .same-angles .ensures) at (c .before .before .before .before .before .if1 .left), rw (c .before .before .before .before .chain-within .ensures) at (c .before .before .before .if2 .left), rw (c .before .before .all-within .ensures) at (c .before .if3 .left))
+returns-4 : tie.Need-returns-4
+returns-4 c = rw (c .closer .ensures, c .before .before .before .before .before .before .before .one .given .1, c .before .before .before .before .two .given .1, rw (c .before .before .same-angles .ensures) at (c .before .if1 .left))
 
 pub closest-alone-spec : {M : Type 1} → statement M
-closest-alone-spec = tie.close (tie.spec enum-known-one enum-told returns enum-known-two enum-told-2 returns-2 same-angles-requires returns-3 chain-within-requires returns-4 all-within-requires returns-5 closer-requires returns-6)
+closest-alone-spec = tie.close (tie.spec enum-known-one enum-told returns enum-known-two enum-told-2 returns-2 same-angles-requires returns-3 closer-requires returns-4)

@@ -2,7 +2,8 @@ use borrow.Author.Needs.{needs}
 use mathlib.Core.Path.{sym}
 use Rattle.inverse.specs.Orientation.{orientationAngles}
 use Rattle.path.specs.Exact.{exactPose}
-use Rattle.path.proofs.OneEnough.{FitVec, FitSpin, one-enough}
+use Rattle.geometry.proofs.FitVectors.{FitVec}
+use Rattle.path.proofs.OneEnough.{FitSpin, one-enough}
 use Rattle.path.proofs.exact.exact_pose.Statement.{statement}
 use Rattle.path.proofs.exact.exact_pose.Tie as tie
 
@@ -38,7 +39,7 @@ unfolding exactPose
 returns c =
     let g = c .before .before .before .before .before in
     let raw = orientationAngles (g .args .s .chain) (g .args .target) (g .args .previous) in
-    sym (one-enough (g .args .s) (g .args .target) (g .args .tip) (g .args .previous) (raw .first) (raw .second) _ (first-fits g, second-fits g, spindle-fits g) (tip-fits g)
+    sym (one-enough (g .args .s) (g .args .target) (g .args .tip) (g .args .previous) (raw .first) (raw .second) _ (first-fits g, second-fits g, spindle-fits g) (g .pre .0) (tip-fits g) (g .pre .1)
     (rw (c .before .before .before .closest-alone .ensures, c .before .before .before .before .orientation-angles .ensures) at (c .before .closest .given .1)))
 
 returns-2 : tie.Need-returns-2

@@ -1,4 +1,5 @@
 use borrow.Author.Needs.{needs}
+use borrow.Author.Tests.{not-false}
 use Rattle.path.specs.Posing.{solvedTip}
 use Rattle.path.proofs.posing.solved_tip.Statement.{statement}
 use Rattle.path.proofs.posing.solved_tip.Tie as tie
@@ -24,7 +25,7 @@ unfolding solvedTip
 returns-2 c = rw (c .refused2 .ensures, rw (c .before .before .before .before .all-finite .ensures) at (c .before .before .before .if1 .left), rw (c .before .before .all-within .ensures) at (c .before .if2 .taken))
 
 solve-one-requires : tie.Need-solve-one-requires
-solve-one-requires c κs = search needs
+solve-one-requires c κs = (c .before .before .before .before .pre, not-false _ (rw (c .before .all-within .ensures) at (c .if2 .left)))
 
 with-turns-requires : tie.Need-with-turns-requires
 with-turns-requires c κs = search needs

@@ -11,12 +11,15 @@ returns-2 : tie.Need-returns-2
 unfolding frameOn
 returns-2 c = rw (c .before .if1 .left, c .if2 .taken)
 
+dot-requires : tie.Need-dot-requires
+dot-requires c κs = search needs
+
 in-sense-requires : tie.Need-in-sense-requires
 in-sense-requires c κs = search needs
 
 returns-3 : tie.Need-returns-3
 unfolding frameOn
-returns-3 c = rw (c .in-sense .ensures, c .before .before .if1 .left, c .before .if2 .left)
+returns-3 c = rw (c .in-sense .ensures, c .before .dot .ensures, c .before .before .before .if1 .left, c .before .before .if2 .left)
 
 pub frame-on-spec : {M : Type 1} → statement M
-frame-on-spec = tie.close (tie.spec returns returns-2 in-sense-requires returns-3)
+frame-on-spec = tie.close (tie.spec returns returns-2 dot-requires in-sense-requires returns-3)

@@ -1,5 +1,6 @@
 use borrow.Author.Needs.{needs}
 use Rattle.path.specs.Solving.{solveChecked}
+use Rattle.path.proofs.Room.{set-up-bounded}
 use Rattle.path.proofs.solving.solve_checked.Statement.{statement}
 use Rattle.path.proofs.solving.solve_checked.Tie as tie
 
@@ -10,7 +11,7 @@ start-angles-requires : tie.Need-start-angles-requires
 start-angles-requires c κs = search needs
 
 solve-poses-requires : tie.Need-solve-poses-requires
-solve-poses-requires c κs = search needs
+solve-poses-requires c κs = (c .before .before .before .before .before .pre .0, set-up-bounded _ _ _ (c .before .before .set-up .ensures) (c .before .before .before .before .before .pre .1))
 
 same-length : tie.Need-same-length
 same-length c = search needs

@@ -2,7 +2,8 @@ use borrow.Author.Needs.{needs}
 use lib.ListN.{length}
 use Rattle.path.specs.Solving.{solvePath, pathOver}
 use Rattle.path.proofs.Promises.{path-served}
-use Rattle.path.proofs.Room.{room-passed}
+use Rattle.chain.proofs.UnitAxes.{FitAxes}
+use Rattle.path.proofs.Room.{room-passed, chain-bounded}
 use Rattle.path.proofs.solving.solve_path.Statement.{statement}
 use Rattle.path.proofs.solving.solve_path.Tie as tie
 
@@ -22,8 +23,17 @@ returns c =
 enum-told : tie.Need-enum-told
 enum-told c = search needs
 
+axes-fit : (c : tie.Start) → FitAxes (c .args .k)
+axes-fit c =
+    let first = c .good .0 .1 .1 .1 .0 .1 .1 .1 .1 .1 .0 in
+    let second = c .good .0 .1 .1 .1 .1 .0 .1 .1 .1 .1 .1 .0 in
+    let spindle = c .good .0 .1 .1 .1 .1 .1 .0 in
+    ((search (needs, first), search (needs, first), search (needs, first)), (search (needs, second), search (needs, second), search (needs, second)), (search (needs, spindle), search (needs, spindle), search (needs, spindle)))
+
 solve-checked-requires : tie.Need-solve-checked-requires
-solve-checked-requires c κs = room-passed _ _ _ _ _ (rw (c .before .before .before .solve-check .ensures) at (c .before .enum-told .given .1))
+solve-checked-requires c κs =
+    let e = rw (c .before .before .before .solve-check .ensures) at (c .before .enum-told .given .1) in
+    (room-passed _ _ _ _ _ e, chain-bounded _ _ _ _ _ e (axes-fit (c .before .before .before .before .before .before)))
 
 same-length : tie.Need-same-length
 same-length c = search needs

@@ -13,7 +13,7 @@ abbrev μ-loop : tie.MeasureT-loop
 μ-loop s poses out₀ n previous₀ i₀ out previous i = n - i
 
 loop-holds : tie.Need-loop-holds Inv-loop μ-loop
-loop-holds c = walking-start _ _ _ _ (c .before .before .pre)
+loop-holds c = walking-start _ _ _ _ (c .before .before .pre .0) (c .before .before .pre .1)
 
 mul-pose-in : tie.Need-mul-pose-in Inv-loop μ-loop
 mul-pose-in c = omega arith
@@ -22,7 +22,7 @@ pose-in-requires : tie.Need-pose-in-requires Inv-loop μ-loop
 pose-in-requires c κs = omega arith
 
 pose-answer-requires : tie.Need-pose-answer-requires Inv-loop μ-loop
-pose-answer-requires c κs = tt
+pose-answer-requires c κs = c .before .before .loop .inv .chain
 
 enum-known-answer : tie.Need-enum-known-answer Inv-loop μ-loop
 enum-known-answer c = search needs
