@@ -1,4 +1,4 @@
--- Demand 3 holds of document 01's halving, for every list of poses with solved joints: `priced`.
+-- Demand 3 holds of document 01's halving, for every list of poses with solved joints that pass division's checks: `priced`.
 use Prim.Native.Nat.{ℕ, suc, _+_, _-_, _≤_, _<_}
 use native.Mathlib.Nat.{zero-add}
 use mathlib.Core.Path.{_≡_, refl, sym, _∙_}
@@ -18,7 +18,7 @@ use Rattle.middle.specs.declared.Tolerances.{Tolerances}
 use Rattle.middle.specs.Testing.{jointsUnchanged, lerpJoints, midpoint, segmentWithin, nearAnEnd, divides}
 use Rattle.divide.specs.Price.{AllClose, Insertions, no-more, one-more, Result}
 use Rattle.divide.proofs.PriceGap.{unchanged-close}
-use Rattle.divide.proofs.PriceSound.{Limited, limited-mid, Sound, sound-mid}
+use Rattle.divide.proofs.PriceSound.{Limited, limited-mid, Sized, sized-mid}
 
 -- ---- what the price list states, of the halving's own answer
 pub record Answered (k : Kinematics) (p : Prepared) (tol : Tolerances) (space : ℕ) (g : List Item) (answer : Answer Item) : Type 0 where
@@ -93,11 +93,8 @@ module _ (p : Prepared) (tol : Tolerances) where
   all-hold P closed s given =
       steps-all (divides p tol) (midpoint p) (λ i. P (i .joints)) (λ x y. closed (x .joints) (y .joints)) s given
 
-  pub all-sound : (k : Kinematics) {g r : List Item} {n : ℕ} → Steps (divides p tol) (midpoint p) g n r
-      → ((i : Item) → List·Memᴰ i g → Sound k (i .joints)) → (i : Item) → List·Memᴰ i r → Sound k (i .joints)
-  all-sound k s given = all-hold (Sound k) (sound-mid k) s given
-
-  module _ (k : Kinematics) (space : ℕ) (g : List Item) (room : length g ≤ space) (given : (i : Item) → List·Memᴰ i g → Limited k (i .joints)) where
+  module _ (k : Kinematics) (space : ℕ) (g : List Item) (room : length g ≤ space) (limits : (i : Item) → List·Memᴰ i g → Limited k (i .joints))
+      (sizes : (i : Item) → List·Memᴰ i g → Sized (i .joints)) where
     pub divided : (n : ℕ) (r : List Item) → halve (divides p tol) (midpoint p) space 10000 0 g ≡ Done n r → Result k p tol g n r
     divided n r e =
         let d = Ends.result (divides p tol) (midpoint p) space 10000 n g r room e in
@@ -105,10 +102,11 @@ module _ (p : Prepared) (tol : Tolerances) where
           halved = d .steps;
           ended = d .ended;
           in-order = d .in-order;
-          limits = λ i m. all-hold (Limited k) (limited-mid k) (d .steps) given i m .limits;
+          limits = λ i m. all-hold (Limited k) (limited-mid k) (d .steps) limits i m .limits;
           inserted = insertions (d .steps);
           close = λ front x y back w f. kept-close x y (d .kept front x y back w) f;
           counted = d .counted;
+          sizes = λ i m. all-hold Sized sized-mid (d .steps) sizes i m .sizes;
         }
 
     pub priced : Answered k p tol space g (halve (divides p tol) (midpoint p) space 10000 0 g)

@@ -33,33 +33,33 @@ use Rattle.turn.proofs.Stored.{pose-codec, joints-codec}
 use Rattle.divide.proofs.Price.{Answered}
 
 -- ---- the cases of an answer
-abbrev isEnded : Division → Bool
+abbrev pub isEnded : Division → Bool
 isEnded (Refused r) = false
 isEnded (AtPose r) = false
 isEnded (Ended d) = true
 
-abbrev isDone : Division → Bool
+abbrev pub isDone : Division → Bool
 isDone (Refused r) = false
 isDone (AtPose r) = false
 isDone (Ended (Done n)) = true
 isDone (Ended (TooMany n)) = false
 isDone (Ended (NoSpace n)) = false
 
-abbrev isMany : Division → Bool
+abbrev pub isMany : Division → Bool
 isMany (Refused r) = false
 isMany (AtPose r) = false
 isMany (Ended (Done n)) = false
 isMany (Ended (TooMany n)) = true
 isMany (Ended (NoSpace n)) = false
 
-abbrev isFull : Division → Bool
+abbrev pub isFull : Division → Bool
 isFull (Refused r) = false
 isFull (AtPose r) = false
 isFull (Ended (Done n)) = false
 isFull (Ended (TooMany n)) = false
 isFull (Ended (NoSpace n)) = true
 
-abbrev countIn : Division → ℕ
+abbrev pub countIn : Division → ℕ
 countIn (Refused r) = 0
 countIn (AtPose r) = 0
 countIn (Ended (Done n)) = n

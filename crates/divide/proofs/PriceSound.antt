@@ -1,13 +1,13 @@
--- What holds of solved joints, and of the midpoint of two of which it holds: so it holds of all that are inserted. A midpoint lies between its ends, so limits and sizes stay. `Limited` is what the price list's statement needs, of the angles
--- alone; `Sound` is all that the solver and division's checks give.
+-- What holds of given joints, and of the midpoint of two of which it holds: so it holds of all that are inserted. A midpoint lies
+-- between its ends, so limits and sizes stay. `Limited` is of solved joints, and of their angles alone; `Sized` is of any joints
+-- that pass division's checks, and of all five numbers.
 use mathlib.Core.Path.{_≡_, refl}
 use mathlib.Core.Bool.{Bool, true, false, _&&_, cond}
-use lib.Dec.{T, eqb}
+use lib.Dec.{T}
 use lib.Ieee as Ieee
 use lib.Ieee.{Float, binary64, le, fits, ofBits}
 use lib.Ieee.Bits.{ofBits-fits}
 use lib.Ieee.Fits.{add-fits}
-use Rattle.float.specs.Helpers.{nought}
 use Rattle.float.proofs.Between.{big, Tame, tame-of, half-portion, way-between, way-size, ten-million-big}
 use Rattle.float.proofs.Sizes.{size-le-parts}
 use Rattle.geometry.specs.declared.Vec3.{Vec3}
@@ -74,10 +74,6 @@ second-mid : (two : Bool) (t : Travel) (a b c : Float) → (permits t a ≡ true
 second-mid true t a b c f g h = f g h
 second-mid false t a b c f g h = refl
 
-zero-mid : lerp nought nought half ≡ nought
-unfolding Ieee.add Ieee.sub Ieee.mul Ieee.neg Ieee.sum Ieee.round ofBits
-zero-mid = refl
-
 inside-parts : (c : Bounds) (j : Joints) → inside c j ≡ true → (firstInside c j ≡ true) × (secondInside c j ≡ true)
 unfolding inside
 inside-parts c j h = both (firstInside c j) (secondInside c j) h
@@ -133,60 +129,52 @@ module _ (k : Kinematics) (a b : Joints) (A : Limited k a) (B : Limited k b) whe
     fits-a1 = mid-fits (a .a1) (b .a1);
   }
 
--- ---- all five numbers: served by the solver, positions within the 10,000,000 mm that division asks for, and each a number of the format
-pub record Sound (k : Kinematics) (j : Joints) : Type 0 where
-  pub served : Served k j
-  pub sizes : allWithin (j .xyz) farthest ≡ true
+-- ---- all five numbers: within the sizes that division's checks ask for, and numbers of the format
+pub record Sized (j : Joints) : Type 0 where
+  pub sizes : jointsWithin j ≡ true
   pub fits-x : T (fits binary64 (j .xyz .x))
   pub fits-y : T (fits binary64 (j .xyz .y))
   pub fits-z : T (fits binary64 (j .xyz .z))
   pub fits-a0 : T (fits binary64 (j .a0))
   pub fits-a1 : T (fits binary64 (j .a1))
 
-pub sound-limited : (k : Kinematics) (j : Joints) → Sound k j → Limited k j
-sound-limited k j s = served-limited k j (s .served) (s .fits-a0) (s .fits-a1)
-
--- what division's check of sizes passes
-pub sound-within : (k : Kinematics) (j : Joints) → Sound k j → jointsWithin j ≡ true
+pub size-parts : (j : Joints) → jointsWithin j ≡ true
+    → (allWithin (j .xyz) farthest ≡ true) × ((within (j .a0) mostTurned ≡ true) × (within (j .a1) mostTurned ≡ true))
 unfolding jointsWithin
-sound-within k j s = let t = turned-parts j (s .served .turns) in rw (s .sizes, t .0, t .1)
-
-pub within-sizes : (j : Joints) → jointsWithin j ≡ true → allWithin (j .xyz) farthest ≡ true
-unfolding jointsWithin
-within-sizes j h =
+size-parts j h =
     let p = both (allWithin (j .xyz) farthest && within (j .a0) mostTurned) (within (j .a1) mostTurned) h in
-    both (allWithin (j .xyz) farthest) (within (j .a0) mostTurned) (p .0) .0
+    let q = both (allWithin (j .xyz) farthest) (within (j .a0) mostTurned) (p .0) in
+    (q .0, (q .1, p .1))
 
-module _ (k : Kinematics) (a b : Joints) (A : Sound k a) (B : Sound k b) where
-  mid-limited : Limited k (lerpJoints a b)
-  mid-limited = limited-mid k a b (sound-limited k a A) (sound-limited k b B)
+pub sizes-finite : (j : Joints) → jointsWithin j ≡ true → jointsFinite j ≡ true
+unfolding jointsFinite
+sizes-finite j h =
+    let p = size-parts j h in
+    rw (
+      all-within-finite farthest over-farthest (j .xyz) (p .0),
+      within-finite mostTurned over-turned (j .a0) (p .1 .0),
+      within-finite mostTurned over-turned (j .a1) (p .1 .1),
+    )
 
-  mid-sizes : allWithin (lerpJoints a b .xyz) farthest ≡ true
-  unfolding lerpJoints
-  mid-sizes = mid-all-within farthest ten-million-big (a .xyz) (b .xyz) (A .fits-x) (A .fits-y) (A .fits-z) (B .fits-x) (B .fits-y) (B .fits-z) (A .sizes) (B .sizes)
-
-  mid-numbers : jointsFinite (lerpJoints a b) ≡ true
-  unfolding jointsFinite
-  mid-numbers =
-      let t = turned-parts (lerpJoints a b) (mid-limited .turns) in
+module _ (a b : Joints) (A : Sized a) (B : Sized b) where
+  mid-sizes : jointsWithin (lerpJoints a b) ≡ true
+  unfolding jointsWithin lerpJoints
+  mid-sizes =
+      let p = size-parts a (A .sizes) in
+      let q = size-parts b (B .sizes) in
       rw (
-        all-within-finite farthest over-farthest (lerpJoints a b .xyz) mid-sizes,
-        within-finite mostTurned over-turned (lerpJoints a b .a0) (t .0),
-        within-finite mostTurned over-turned (lerpJoints a b .a1) (t .1),
+        mid-all-within farthest ten-million-big (a .xyz) (b .xyz) (A .fits-x) (A .fits-y) (A .fits-z) (B .fits-x) (B .fits-y) (B .fits-z) (p .0) (q .0),
+        mid-within (a .a0) (b .a0) (A .fits-a0) (B .fits-a0) mostTurned turned-big (p .1 .0) (q .1 .0),
+        mid-within (a .a1) (b .a1) (A .fits-a1) (B .fits-a1) mostTurned turned-big (p .1 .1) (q .1 .1),
       )
 
-  mid-unused : eqb (k .count) 2 ≡ false → lerpJoints a b .a1 ≡ nought
-  unfolding lerpJoints
-  mid-unused e = rw (A .served .unused e, B .served .unused e) zero-mid
-
-  pub sound-mid : Sound k (lerpJoints a b)
+  pub sized-mid : Sized (lerpJoints a b)
   unfolding lerpJoints lerpVec
-  sound-mid = record {
-    served = record { numbers = mid-numbers; limits = mid-limited .limits; turns = mid-limited .turns; unused = mid-unused };
+  sized-mid = record {
     sizes = mid-sizes;
     fits-x = mid-fits (a .xyz .x) (b .xyz .x);
     fits-y = mid-fits (a .xyz .y) (b .xyz .y);
     fits-z = mid-fits (a .xyz .z) (b .xyz .z);
-    fits-a0 = mid-limited .fits-a0;
-    fits-a1 = mid-limited .fits-a1;
+    fits-a0 = mid-fits (a .a0) (b .a0);
+    fits-a1 = mid-fits (a .a1) (b .a1);
   }

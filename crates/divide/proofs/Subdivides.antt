@@ -6,7 +6,7 @@ use mathlib.Core.Logic.{_⊎_, inl, inr}
 use mathlib.Core.List.{List, List·Memᴰ}
 use lib.Dec.{T}
 use lib.Ieee.{Float, binary64, fits, nan}
-use lib.ListN.{length, getD, take, drop, replicate, take-append-drop, List·getD-eq-default}
+use lib.ListN.{length, getD, take, drop, replicate, take-append-drop}
 use lib.Seq.{length-take-le, getD-take, take-all}
 use Rattle.float.specs.Helpers.{nought}
 use Rattle.lists.specs.Padding.{padded}
@@ -18,6 +18,7 @@ use Rattle.chain.specs.declared.Checked.the-variants as Checked
 use Rattle.chain.specs.declared.Joints.{Joints}
 use Rattle.chain.specs.declared.Kinematics.{Kinematics}
 use Rattle.chain.specs.Prepared.{prepared}
+use Rattle.chain.proofs.Passing.{refused-passed}
 use Rattle.path.specs.declared.Start.{Start}
 use Rattle.lists.specs.Each.{Each}
 use Rattle.path.specs.Solving.{Along, poseFrom, jointNumbers, solvePath}
@@ -36,44 +37,37 @@ use Rattle.turn.proofs.Stored.{joints-codec}
 use Rattle.machine.proofs.Copies.{joints-front}
 use Rattle.divide.proofs.Idle.{less-or-not, busy-within, full-within}
 use Rattle.divide.proofs.Price.{Answered, priced}
-use Rattle.divide.proofs.PriceSound.{Limited}
-use Rattle.divide.proofs.PricePath.{AnglesFit, paired-given, path-limited, rows-fit}
+use Rattle.divide.proofs.PriceSound.{Limited, Sized}
+use Rattle.divide.proofs.PricePath.{paired-given, path-limited, given-sets-sized, given-sized}
 use Rattle.divide.proofs.PriceLent.{begun-price, none-price, refused-price}
 
--- ---- every joint set that was solved is within its limits
-all-fit : (l : List Float) → FitUpTo (length l) l → (i : ℕ) → T (fits binary64 (getD l i nan))
-unfolding fits
-all-fit l f i = go (less-or-not i (length l))
-  where
-    go : (i < length l) ⊎ (length l ≤ i) → T (fits binary64 (getD l i nan))
-    go (inl p) = f .fit i p
-    go (inr p) = subst (λ (x : Float). T (fits binary64 x)) (sym (List·getD-eq-default l nan p)) tt
-
+-- ---- every joint set that was solved is within its limits, and within the sizes that were checked
 taken-fit : (n : ℕ) (l : List Float) → n ≤ length l → FitUpTo n l → FitUpTo (length (take n l)) (take n l)
 taken-fit n l h f =
     let e = length-take-le n l h in
     record { fit = λ i p. let q : i < n = rw e at p in subst (λ (x : Float). T (fits binary64 x)) (sym (getD-take n l i nan q)) (f .fit i q) }
 
-module _ (k : Kinematics) (tol : Tolerances) (lent solved : List Float) (fit : FitUpTo (length solved) solved) (start : Start) (cone : Float) (room : ℕ) (l : List Joints)
-    (along : solvePath k lent start cone room ≡ Along l) (is : solved ≡ flat jointNumbers l) where
+module _ (k : Kinematics) (tol : Tolerances) (lent solved : List Float) (roomPoses roomJoints : ℕ)
+    (passed : divisionCheck k tol lent solved roomPoses roomJoints ≡ Checked.Passed) (fit : FitUpTo (length solved) solved) (start : Start) (cone : Float) (room : ℕ)
+    (l : List Joints) (along : solvePath k lent start cone room ≡ Along l) (is : solved ≡ flat jointNumbers l) where
   rows-solved : rows 5 jointsFrom (length lent / 6) solved ≡ l
   rows-solved =
       ap (λ (n : ℕ). rows 5 jointsFrom n solved) (sym (along-long k lent start cone room l along))
       ∙ ap (λ (z : List Float). rows 5 jointsFrom (length l) z) is
       ∙ rows-flat joints-codec l
 
-  angles : Each AnglesFit l
-  angles = subst (Each AnglesFit) rows-solved (rows-fit nan jointsFrom (λ z. refl) (λ z. refl) (length lent / 6) solved (all-fit solved fit))
+  sizes : Each Sized l
+  sizes = subst (Each Sized) rows-solved (given-sets-sized k tol lent solved roomPoses roomJoints passed fit)
 
   given-limited : (i : Item) → List·Memᴰ i (given lent solved) → Limited k (i .joints)
   unfolding itemsIn
   given-limited i m =
-      paired-given item (λ q j. refl) (Limited k) (rows 6 poseFrom (length lent / 6) lent) l (path-limited k lent start cone room l along angles) i
+      paired-given item (λ q j. refl) (Limited k) (rows 6 poseFrom (length lent / 6) lent) l (path-limited k lent start cone room l along sizes) i
       (subst (λ (z : List Joints). List·Memᴰ i (paired item (rows 6 poseFrom (length lent / 6) lent) z)) rows-solved m)
 
   answered : (space : ℕ) → length (given lent solved) ≤ space → Answered k (prepared k) tol space (given lent solved) (division (prepared k) tol space (given lent solved))
   unfolding division
-  answered space h = priced (prepared k) tol k space (given lent solved) h given-limited
+  answered space h = priced (prepared k) tol k space (given lent solved) h given-limited (given-sized k tol lent solved roomPoses roomJoints passed fit)
 
   ended-price : (space : ℕ) {said : Division} {poses joints : List Float} (p₀ j₀ : List Float) → said ≡ Ended (dividedIn (divisionWithin (prepared k) tol space (given lent solved)))
       → poses ≡ posesOver (divisionWithin (prepared k) tol space (given lent solved)) p₀ → joints ≡ jointsOver (divisionWithin (prepared k) tol space (given lent solved)) j₀
@@ -99,7 +93,7 @@ module _ (k : Kinematics) (tol : Tolerances) (lent solved p₀ j₀ : List Float
       × ((p₀ ≡ posesLeft (subdividePath k tol lent solved (length p₀) (length j₀)) p₀)
       × ((j₀ ≡ jointsLeft (subdividePath k tol lent solved (length p₀) (length j₀)) j₀) × IfSolved k tol lent solved (length p₀) (length j₀) said p₀ j₀))
   unfolding subdividePath posesLeft jointsLeft
-  subdivide-refused e s = (rw e s, (rw e, (rw e, record { price = λ start cone room l a i. refused-price s })))
+  subdivide-refused e s = (rw e s, (rw e, (rw e, record { begun = λ w. absurd (refused-passed (sym e ∙ w)); price = λ start cone room l a i. refused-price s })))
 
   pub subdivide-ended : {ended : Divided} {poses joints : List Float} → divisionCheck k tol lent solved (length p₀) (length j₀) ≡ Checked.Passed → FitUpTo (length solved) solved
       → ended ≡ dividedIn (divisionWithin (prepared k) tol (spaceIn (length p₀) (length j₀)) (given lent solved))
@@ -111,7 +105,17 @@ module _ (k : Kinematics) (tol : Tolerances) (lent solved p₀ j₀ : List Float
   unfolding subdividePath posesLeft jointsLeft
   subdivide-ended e f s u v = (
     rw e (ap Ended s),
-    (rw e u, (rw e v, record { price = λ start cone room l a i. ended-price k tol lent solved f start cone room l a i (spaceIn (length p₀) (length j₀)) p₀ j₀ (ap Ended s) u v })),
+    (
+      rw e u,
+      (
+        rw e v,
+        record {
+          begun = λ w. tt;
+          price = λ start cone room l a i.
+              ended-price k tol lent solved (length p₀) (length j₀) e f start cone room l a i (spaceIn (length p₀) (length j₀)) p₀ j₀ (ap Ended s) u v;
+        },
+      ),
+    ),
   )
 
 -- ---- the call of both, after solving: division's refusals leave +0.0 here
@@ -127,7 +131,7 @@ module _ (k : Kinematics) (tol : Tolerances) (lent p₀ j₀ : List Float) where
   unfolding foundIn subdividePath posesLeft jointsLeft
   found-refused e s u v = (
     rw e s,
-    (rw e (u ∙ padded-nil (length p₀) nought), (rw e (v ∙ padded-nil (length j₀) nought), record { price = λ start cone room l a i. refused-price s })),
+    (rw e (u ∙ padded-nil (length p₀) nought), (rw e (v ∙ padded-nil (length j₀) nought), record { begun = λ w. absurd (refused-passed (sym e ∙ w)); price = λ start cone room l a i. refused-price s })),
   )
 
   front-found : length lent / 6 * 5 ≤ length j₀ → given lent j₀ ≡ given lent found
@@ -150,5 +154,15 @@ module _ (k : Kinematics) (tol : Tolerances) (lent p₀ j₀ : List Float) where
       let u' = rw g at u in
       let v' = rw g at v in (
         rw e (ap Ended s'),
-        (rw e u', (rw e v', record { price = λ start cone room l a i. ended-price k tol lent found (taken-fit (length lent / 6 * 5) j₀ h f) start cone room l a i (spaceIn (length p₀) (length j₀)) p₀ j₀ (ap Ended s') u' v' })),
+        (
+          rw e u',
+          (
+            rw e v',
+            record {
+              begun = λ w. tt;
+              price = λ start cone room l a i.
+                  ended-price k tol lent found (length p₀) (length j₀) e (taken-fit (length lent / 6 * 5) j₀ h f) start cone room l a i (spaceIn (length p₀) (length j₀)) p₀ j₀ (ap Ended s') u' v';
+            },
+          ),
+        ),
       )

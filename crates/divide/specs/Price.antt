@@ -17,6 +17,7 @@ use Rattle.chain.specs.declared.Checked.the-variants as Checked
 use Rattle.chain.specs.declared.Joints.{Joints}
 use Rattle.chain.specs.declared.Kinematics.{Kinematics}
 use Rattle.chain.specs.declared.Prepared.{Prepared}
+use Rattle.chain.specs.Check.{jointsWithin}
 use Rattle.chain.specs.Prepared.{prepared}
 use Rattle.path.specs.declared.Start.{Start}
 use Rattle.path.specs.Unwinding.{inside}
@@ -75,8 +76,10 @@ pub record Result (k : Kinematics) (p : Prepared) (tol : Tolerances) (g : List I
   -- "where two neighbours fail it, their midpoint differs from one of them by at most 1e-12 in all five numbers"
   pub close : (front : List Item) (x y : Item) (back : List Item) → r ≡ front ++ x ∷ y ∷ back → segmentWithin p tol x y ≡ false
       → AllClose (midpoint p x y .joints) (x .joints) ⊎ AllClose (midpoint p x y .joints) (y .joints)
-  -- "The reported count is the number inserted"
+  -- "The reported count is the number inserted": what is inserted is n poses, by `inserted`, and they make the result so long
   pub counted : length r ≡ length g + n
+  -- so no cable number is refused, and no later call: positions within 10,000,000 mm and angles within 36,000 degrees, all finite
+  pub sizes : (i : Item) → List·Memᴰ i r → jointsWithin (i .joints) ≡ true
 
 -- ---- +0.0 in the whole of both outputs, and behind so many poses
 abbrev pub AllZero : List Float → List Float → Type 0
@@ -117,6 +120,8 @@ pub record Price (k : Kinematics) (tol : Tolerances) (space : ℕ) (g : List Ite
 
 -- ---- of joints that `solve_path` gives for this chain and these poses, whatever the start, the cone and the space that it had
 pub record IfSolved (k : Kinematics) (tol : Tolerances) (lent solved : List Float) (roomPoses roomJoints : ℕ) (answer : Division) (poses joints : List Float) : Type 0 where
+  -- where the checks before the first test pass, nothing but 27 and 28 is refused
+  pub begun : divisionCheck k tol lent solved roomPoses roomJoints ≡ Checked.Passed → Checks answer
   pub price : (start : Start) (cone : Float) (room : ℕ) (l : List Joints) → solvePath k lent start cone room ≡ Along l → solved ≡ flat jointNumbers l
       → Price k tol (spaceIn roomPoses roomJoints) (given lent solved) answer poses joints
 

@@ -9,7 +9,8 @@ use lib.ListN.{length}
 use Rattle.halving.specs.Halving.{halve, Done}
 use Rattle.halving.proofs.Step.{true-false}
 use Rattle.halving.proofs.Ends.{ends-done, result-on}
-use Rattle.halving.proofs.Pairs.{Between, b-keeps, b-divides, Inserts, i-nil, i-one, i-more, inserts-steps, steps-inserts}
+use Rattle.halving.specs.Inserting.{Between, undivided, divided, Inserts, no-item, one-item, more-items}
+use Rattle.halving.proofs.Pairs.{inserts-steps, steps-inserts}
 
 sub-length : {A : Type 0} {l r : List A} → Sublistᴰ l r → length l ≤ length r
 sub-length Sublistᴰ·slnil = omega arith
@@ -34,13 +35,13 @@ module _ {A : Type 0} (strict loose : A → A → Bool) (mid : A → A → A) (l
       go false e = e
 
   between : {x y : A} {a : List A} → Between strict mid x y a → (b : List A) × (Between loose mid x y b × Sublistᴰ b a)
-  between {x} {y} (b-keeps e) = ([], (b-keeps (keeps x y e), Sublistᴰ·slnil))
-  between {x} {y} (b-divides {a = a} {b = b} e s t) = go (loose x y) refl (between s) (between t)
+  between {x} {y} (undivided e) = ([], (undivided (keeps x y e), Sublistᴰ·slnil))
+  between {x} {y} (divided {a = a} {b = b} e s t) = go (loose x y) refl (between s) (between t)
     where
       go : (c : Bool) → loose x y ≡ c → (d : List A) × (Between loose mid x (mid x y) d × Sublistᴰ d a) → (d : List A) × (Between loose mid (mid x y) y d × Sublistᴰ d b)
           → (d : List A) × (Between loose mid x y d × Sublistᴰ d (a ++ mid x y ∷ b))
-      go true f (p, u) (q, v) = (p ++ mid x y ∷ q, (b-divides f (u .0) (v .0), sub-append (u .1) (Sublistᴰ·cons-cons refl (v .1))))
-      go false f u v = ([], (b-keeps f, sub-nil (a ++ mid x y ∷ b)))
+      go true f (p, u) (q, v) = (p ++ mid x y ∷ q, (divided f (u .0) (v .0), sub-append (u .1) (Sublistᴰ·cons-cons refl (v .1))))
+      go false f u v = ([], (undivided f, sub-nil (a ++ mid x y ∷ b)))
 
   -- i is inserted by the stricter test, with the result r: the looser one inserts `fewer`, with the result `shorter`
   pub record Looser (l i r : List A) : Type 0 where
@@ -51,15 +52,15 @@ module _ {A : Type 0} (strict loose : A → A → Bool) (mid : A → A → A) (l
     pub part : Sublistᴰ shorter r
 
   pub loosened : {l i r : List A} → Inserts strict mid l i r → Looser l i r
-  loosened i-nil = record { fewer = []; shorter = []; inserts = i-nil; among = Sublistᴰ·slnil; part = Sublistᴰ·slnil }
-  loosened (i-one {x = x}) = record { fewer = []; shorter = x ∷ []; inserts = i-one; among = Sublistᴰ·slnil; part = Sublistᴰ·refl (x ∷ []) }
-  loosened (i-more {x = x} b s) =
+  loosened no-item = record { fewer = []; shorter = []; inserts = no-item; among = Sublistᴰ·slnil; part = Sublistᴰ·slnil }
+  loosened (one-item {x = x}) = record { fewer = []; shorter = x ∷ []; inserts = one-item; among = Sublistᴰ·slnil; part = Sublistᴰ·refl (x ∷ []) }
+  loosened (more-items {x = x} b s) =
       let (d, q) = between b in
       let z = loosened s in
       record {
         fewer = d ++ z .fewer;
         shorter = x ∷ (d ++ z .shorter);
-        inserts = i-more (q .0) (z .inserts);
+        inserts = more-items (q .0) (z .inserts);
         among = sub-append (q .1) (z .among);
         part = Sublistᴰ·cons-cons refl (sub-append (q .1) (z .part));
       }

@@ -11,40 +11,30 @@ use mathlib.Core.List.{List, [], _∷_, _++_, append-assoc, head-eq-of-cons-eq, 
 use mathlib.Core.List.{Sublistᴰ, Sublistᴰ·slnil, Sublistᴰ·cons}
 use lib.ListN.{length, length-append}
 use Rattle.halving.specs.Halving.{step, Steps, here, more}
+use Rattle.halving.specs.Inserting.{Between, undivided, divided, Inserts, no-item, one-item, more-items}
 use Rattle.halving.proofs.Step.{some-none, true-false, none-cases, some-cases, Some-cases, step-one, past-divides, past-keeps}
 use Rattle.halving.proofs.Steps.{steps-length, steps-then, sub-behind}
 
 module _ {A : Type 0} (divides : A → A → Bool) (mid : A → A → A) where
-  -- between x and y, a is inserted
-  pub data Between : A → A → List A → Type 0 where
-    b-keeps : {x y : A} → divides x y ≡ false → Between x y []
-    b-divides : {x y : A} {a b : List A} → divides x y ≡ true → Between x (mid x y) a → Between (mid x y) y b → Between x y (a ++ mid x y ∷ b)
-
-  -- into l, i is inserted, and that gives r
-  pub data Inserts : List A → List A → List A → Type 0 where
-    i-nil : Inserts [] [] []
-    i-one : {x : A} → Inserts (x ∷ []) [] (x ∷ [])
-    i-more : {x y : A} {l a i r : List A} → Between x y a → Inserts (y ∷ l) i r → Inserts (x ∷ y ∷ l) (a ++ i) (x ∷ (a ++ r))
-
-  pub inserts-length : {l i r : List A} → Inserts l i r → length r ≡ length l + length i
-  inserts-length i-nil = omega arith
-  inserts-length i-one = omega arith
-  inserts-length (i-more {a = a} {i = i} {r = r} b s) =
+  pub inserts-length : {l i r : List A} → Inserts divides mid l i r → length r ≡ length l + length i
+  inserts-length no-item = omega arith
+  inserts-length one-item = omega arith
+  inserts-length (more-items {a = a} {i = i} {r = r} b s) =
       let e = inserts-length s in
       let f = length-append a r in
       let g = length-append a i in
       omega arith
 
-  pub inserted-sub : {l i r : List A} → Inserts l i r → Sublistᴰ i r
-  inserted-sub i-nil = Sublistᴰ·slnil
-  inserted-sub i-one = Sublistᴰ·cons Sublistᴰ·slnil
-  inserted-sub (i-more {a = a} b s) = Sublistᴰ·cons (sub-behind a (inserted-sub s))
+  pub inserted-sub : {l i r : List A} → Inserts divides mid l i r → Sublistᴰ i r
+  inserted-sub no-item = Sublistᴰ·slnil
+  inserted-sub one-item = Sublistᴰ·cons Sublistᴰ·slnil
+  inserted-sub (more-items {a = a} b s) = Sublistᴰ·cons (sub-behind a (inserted-sub s))
 
   -- ---- from the steps to the pairs
-  inserts-self : (l : List A) → step divides mid l ≡ none → Inserts l [] l
-  inserts-self [] h = i-nil
-  inserts-self (x ∷ []) h = i-one
-  inserts-self (x ∷ y ∷ l) h = let c = none-cases divides mid x y l h in i-more (b-keeps (c .0)) (inserts-self (y ∷ l) (c .1))
+  inserts-self : (l : List A) → step divides mid l ≡ none → Inserts divides mid l [] l
+  inserts-self [] h = no-item
+  inserts-self (x ∷ []) h = one-item
+  inserts-self (x ∷ y ∷ l) h = let c = none-cases divides mid x y l h in more-items (undivided (c .0)) (inserts-self (y ∷ l) (c .1))
 
   step-head : (x : A) (l m : List A) → step divides mid (x ∷ l) ≡ some m → (t : List A) × (m ≡ x ∷ t)
   step-head x [] m h = some-none _ _ h (step-one divides mid x)
@@ -55,14 +45,14 @@ module _ {A : Type 0} (divides : A → A → Bool) (mid : A → A → A) where
       go (inr c) = (c .1 .0, c .1 .2)
 
   abbrev Into : List A → List A → Type 0
-  Into l r = (i : List A) × Inserts l i r
+  Into l r = (i : List A) × Inserts divides mid l i r
 
-  joined : {x y : A} {l i r : List A} → divides x y ≡ true → Inserts (x ∷ mid x y ∷ y ∷ l) i r → Into (x ∷ y ∷ l) r
-  joined {x} {y} {l} e (i-more {a = a} p (i-more {a = b} {i = i} {r = r} q s)) =
-      (_, subst (λ (z : List A). Inserts (x ∷ y ∷ l) ((a ++ mid x y ∷ b) ++ i) (x ∷ z)) (append-assoc a (mid x y ∷ b) r) (i-more (b-divides e p q) s))
+  joined : {x y : A} {l i r : List A} → divides x y ≡ true → Inserts divides mid (x ∷ mid x y ∷ y ∷ l) i r → Into (x ∷ y ∷ l) r
+  joined {x} {y} {l} e (more-items {a = a} p (more-items {a = b} {i = i} {r = r} q s)) =
+      (_, subst (λ (z : List A). Inserts divides mid (x ∷ y ∷ l) ((a ++ mid x y ∷ b) ++ i) (x ∷ z)) (append-assoc a (mid x y ∷ b) r) (more-items (divided e p q) s))
 
-  headed : {x y : A} {t l i r : List A} → Inserts (x ∷ y ∷ t) i r → ((q : List A) → Into (y ∷ t) q → Into (y ∷ l) q) → Into (x ∷ y ∷ l) r
-  headed (i-more {i = i} {r = q} b s) f = (_, i-more b (f q (i, s) .1))
+  headed : {x y : A} {t l i r : List A} → Inserts divides mid (x ∷ y ∷ t) i r → ((q : List A) → Into (y ∷ t) q → Into (y ∷ l) q) → Into (x ∷ y ∷ l) r
+  headed (more-items {i = i} {r = q} b s) f = (_, more-items b (f q (i, s) .1))
 
   unstep : (l m : List A) → step divides mid l ≡ some m → (r : List A) → Into m r → Into l r
   unfolding step
@@ -83,7 +73,7 @@ module _ {A : Type 0} (divides : A → A → Bool) (mid : A → A → A) where
   into-steps {l} here e = ([], inserts-self l e)
   into-steps (more {l = l} {m = m} {r = r} h s) e = unstep l m h r (into-steps s e)
 
-  pub steps-inserts : {l r : List A} {j : ℕ} → Steps divides mid l j r → step divides mid r ≡ none → (i : List A) × (Inserts l i r × (length i ≡ j))
+  pub steps-inserts : {l r : List A} {j : ℕ} → Steps divides mid l j r → step divides mid r ≡ none → (i : List A) × (Inserts divides mid l i r × (length i ≡ j))
   steps-inserts s e =
       let (i, t) = into-steps s e in
       let a = steps-length divides mid s in
@@ -94,10 +84,10 @@ module _ {A : Type 0} (divides : A → A → Bool) (mid : A → A → A) where
   abbrev Leads : List A → ℕ → List A → List A → Type 0
   Leads l j r c = Steps divides mid l j r × (step divides mid c ≡ none)
 
-  between-steps : {x y : A} {a : List A} → Between x y a → (p t : List A) → step divides mid (p ++ x ∷ []) ≡ none
+  between-steps : {x y : A} {a : List A} → Between divides mid x y a → (p t : List A) → step divides mid (p ++ x ∷ []) ≡ none
       → Leads (p ++ x ∷ y ∷ t) (length a) (p ++ x ∷ (a ++ y ∷ t)) (p ++ x ∷ (a ++ y ∷ []))
-  between-steps {x} {y} (b-keeps e) p t h = (here, past-keeps divides mid p x y h e)
-  between-steps {x} {y} (b-divides {a = a} {b = b} e u v) p t h =
+  between-steps {x} {y} (undivided e) p t h = (here, past-keeps divides mid p x y h e)
+  between-steps {x} {y} (divided {a = a} {b = b} e u v) p t h =
       let m = mid x y in
       let first = past-divides divides mid p x y t h e in
       let (s, c) = between-steps u p (y ∷ t) h in
@@ -113,10 +103,10 @@ module _ {A : Type 0} (divides : A → A → Bool) (mid : A → A → A) where
         sym (ap (step divides mid) (to (y ∷ []))) ∙ c',
       )
 
-  behind : {l i r : List A} → Inserts l i r → (p : List A) (x : A) (t : List A) → l ≡ x ∷ t → step divides mid (p ++ x ∷ []) ≡ none → Leads (p ++ l) (length i) (p ++ r) (p ++ r)
-  behind i-nil p x t e h = absurd (nil≢cons e)
-  behind (i-one {x = z}) p x t e h = (here, ap (λ (w : A). step divides mid (p ++ w ∷ [])) (head-eq-of-cons-eq e) ∙ h)
-  behind (i-more {x = z} {y = y} {l = l} {a = a} {i = i} {r = r} b s) p x t e h =
+  behind : {l i r : List A} → Inserts divides mid l i r → (p : List A) (x : A) (t : List A) → l ≡ x ∷ t → step divides mid (p ++ x ∷ []) ≡ none → Leads (p ++ l) (length i) (p ++ r) (p ++ r)
+  behind no-item p x t e h = absurd (nil≢cons e)
+  behind (one-item {x = z}) p x t e h = (here, ap (λ (w : A). step divides mid (p ++ w ∷ [])) (head-eq-of-cons-eq e) ∙ h)
+  behind (more-items {x = z} {y = y} {l = l} {a = a} {i = i} {r = r} b s) p x t e h =
       let h' : step divides mid (p ++ z ∷ []) ≡ none = ap (λ (w : A). step divides mid (p ++ w ∷ [])) (head-eq-of-cons-eq e) ∙ h in
       let (u, c) = between-steps b p l h' in
       let q = p ++ z ∷ a in
@@ -128,23 +118,23 @@ module _ {A : Type 0} (divides : A → A → Bool) (mid : A → A → A) where
         sym (ap (step divides mid) (along r)) ∙ c',
       )
 
-  pub inserts-steps : {l i r : List A} → Inserts l i r → Steps divides mid l (length i) r × (step divides mid r ≡ none)
+  pub inserts-steps : {l i r : List A} → Inserts divides mid l i r → Steps divides mid l (length i) r × (step divides mid r ≡ none)
   unfolding step
-  inserts-steps i-nil = (here, refl)
-  inserts-steps (i-one {x = x}) = (here, step-one divides mid x)
-  inserts-steps (i-more {x = x} {y = y} {l = l} b s) = behind (i-more b s) [] x (y ∷ l) refl (step-one divides mid x)
+  inserts-steps no-item = (here, refl)
+  inserts-steps (one-item {x = x}) = (here, step-one divides mid x)
+  inserts-steps (more-items {x = x} {y = y} {l = l} b s) = behind (more-items b s) [] x (y ∷ l) refl (step-one divides mid x)
 
   -- ---- there is one such result
-  pub between-one : {x y : A} {a b : List A} → Between x y a → Between x y b → a ≡ b
-  between-one (b-keeps e) (b-keeps f) = refl
-  between-one (b-keeps e) (b-divides f u v) = true-false _ f e
-  between-one (b-divides e s t) (b-keeps f) = true-false _ e f
-  between-one {x} {y} (b-divides {a = a} {b = b} e s t) (b-divides {a = c} {b = d} f u v) = rw (between-one s u, between-one t v)
+  pub between-one : {x y : A} {a b : List A} → Between divides mid x y a → Between divides mid x y b → a ≡ b
+  between-one (undivided e) (undivided f) = refl
+  between-one (undivided e) (divided f u v) = true-false _ f e
+  between-one (divided e s t) (undivided f) = true-false _ e f
+  between-one {x} {y} (divided {a = a} {b = b} e s t) (divided {a = c} {b = d} f u v) = rw (between-one s u, between-one t v)
 
-  pub inserts-one : {l i j r t : List A} → Inserts l i r → Inserts l j t → (i ≡ j) × (r ≡ t)
-  inserts-one i-nil i-nil = (refl, refl)
-  inserts-one i-one i-one = (refl, refl)
-  inserts-one (i-more b s) (i-more c t) =
+  pub inserts-one : {l i j r t : List A} → Inserts divides mid l i r → Inserts divides mid l j t → (i ≡ j) × (r ≡ t)
+  inserts-one no-item no-item = (refl, refl)
+  inserts-one one-item one-item = (refl, refl)
+  inserts-one (more-items b s) (more-items c t) =
       let e = between-one b c in
       let f = inserts-one s t in
       (rw (e, f .0), rw (e, f .1))

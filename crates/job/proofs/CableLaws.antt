@@ -1,11 +1,12 @@
--- The cable number is the largest: of joint sets within the limits of size, its turns are at most the size of some angle, and no more turns are.
+-- The cable number is the largest: of joint sets within the limits of size, its turns are at most the size of some angle,
+-- and no more turns are. And where it is answered: `cable-answered`.
 use Prim.Native.Nat.{ℕ, _%_, _≤_, _<_}
 use native.Mathlib.Omega.{arith}
 use mathlib.Core.Path.{_≡_, refl, sym, _∙_}
 use mathlib.Core.Bool.{Bool, true, false, cond, _&&_, and-eq-true-iff}
 use mathlib.Core.Logic.{_⊎_, inl, inr, ⊎-elim}
 use mathlib.Core.List.{List, [], _∷_}
-use borrow.Author.Tests.{ltb-true, ltb-false, lt-ltb, le-ltb}
+use borrow.Author.Tests.{ltb-true, ltb-false, lt-ltb, le-ltb, eq-eqb}
 use lib.Dec.{ltb, eqb}
 use lib.ListN.{length}
 use lib.Ieee.{Float}
@@ -16,8 +17,8 @@ use Rattle.chain.specs.declared.Checked.{Checked}
 use Rattle.chain.specs.declared.Checked.the-variants as Checked
 use Rattle.chain.specs.declared.Kinematics.{Kinematics}
 use Rattle.chain.specs.declared.Joints.{Joints}
-use Rattle.chain.specs.Check.{demand, chainCheck, pivotsWithin, allWithin, within, jointsWithin, farthest, mostTurned}
-use Rattle.chain.proofs.Passing.{then-passed, demand-passed}
+use Rattle.chain.specs.Check.{demand, chainCheck, pivotsWithin, allWithin, within, jointsFinite, jointsWithin, farthest, mostTurned}
+use Rattle.chain.proofs.Passing.{refused-passed, then-passed, demand-passed}
 use Rattle.job.specs.Cable.{jointSets, angleOf, Turned, turnsOf, turnsWithin, larger, mostTurns, survey, cableSizes, cableCheck, cableUnless, cableOf, cableNumber, Some, Largest}
 use Rattle.job.specs.declared.Survey.{Survey}
 use Rattle.job.specs.declared.Cable.the-variants as Cable
@@ -141,3 +142,21 @@ module _ (k : Kinematics) (joints : List Float) (rotary n : ℕ) (answered : cab
 
   pub cable-none : k .count ≤ rotary → n ≡ 0
   cable-none h = rw (le-ltb rotary (k .count) h) at (given .1)
+
+-- ---- joint sets within the sizes are answered: of a chain that passes its checks no cable number is refused
+unless-turns : (c : Checked) (n : ℕ) → c ≡ Checked.Passed → cableUnless c n ≡ Cable.Turns n
+unless-turns Checked.Passed n e = refl
+unless-turns (Checked.Refused r) n e = absurd (refused-passed e)
+
+module _ (k : Kinematics) (joints : List Float) (whole : length joints % 5 ≡ 0) (chain : chainCheck k ≡ Checked.Passed) (pivots : pivotsWithin k ≡ true)
+    (numbers : all jointsFinite (jointSets joints) ≡ true) (sizes : all jointsWithin (jointSets joints) ≡ true) where
+  cable-passed : (rotary : ℕ) → cableCheck k (length joints) (survey rotary (jointSets joints)) ≡ Checked.Passed
+  unfolding cableCheck cableSizes survey
+  cable-passed rotary = rw (eq-eqb (length joints % 5) 0 whole, chain, numbers, pivots, sizes)
+
+  pub cable-answered : (rotary : ℕ) → (n : ℕ) × (cableNumber k joints rotary ≡ Cable.Turns n)
+  unfolding cableNumber cableOf
+  cable-answered rotary =
+      let s = survey rotary (jointSets joints) in
+      let n = cond (ltb rotary (k .count)) (s .turns) 0 in
+      (n, unless-turns (cableCheck k (length joints) s) n (cable-passed rotary))

@@ -1,7 +1,7 @@
 -- The two entries that divide, behind the bytes of their chain: each way out is what the definition says, and keeps the promise.
 use Prim.Native.Nat.{ℕ}
 use mathlib.Core.Path.{_≡_, refl, sym, ap, _∙_, subst}
-use mathlib.Core.Bool.{Bool, true, false, not}
+use mathlib.Core.Bool.{Bool, true, false, not, false≢true}
 use mathlib.Core.List.{List}
 use borrow.Author.Tests.{not-true, not-false}
 use lib.ListN.{length}
@@ -17,15 +17,20 @@ use Rattle.middle.specs.declared.Tolerances.{Tolerances}
 use Rattle.divide.specs.Checking.{fourWhole}
 use Rattle.divide.specs.Subdividing.{DivisionAnswer, divisionIn, posesLeft, jointsLeft, subdividePath, solveAndDivide}
 use Rattle.divide.specs.Price.{IfSolved, SolvedAndDivided}
+use Rattle.divide.proofs.Lengths.{all-pass}
 use Rattle.divide.proofs.PriceLent.{refused-price}
 use Rattle.maztubel.specs.PathEntries.{startIn}
 use Rattle.maztubel.specs.DivideEntries.{lengthsRefused, subdivideOf, SubdividePromise, bothLengths, bothOf, BothPromise}
 
 -- ---- division
-refused-promise : (read : ChainRead) (tol : Tolerances) (lent solved : List Float) (a b : ℕ) (poses joints : List Float) {answer : Division} {r : Refusal} → answer ≡ Refused r
-    → SubdividePromise read tol lent solved a b answer poses joints
-refused-promise (ChainRead.Refused s) tol lent solved a b poses joints e = tt
-refused-promise (ChainRead.Chain k) tol lent solved a b poses joints e = record { price = λ start cone room l w i. refused-price e }
+-- records that are not whole are refused by division's own first check, so nothing was begun
+refused-promise : (read : ChainRead) (tol : Tolerances) (lent solved : List Float) (a b : ℕ) (poses joints : List Float) {answer : Division} {r : Refusal}
+    → fourWhole (length lent) (length solved) a b ≡ false → answer ≡ Refused r → SubdividePromise read tol lent solved a b answer poses joints
+refused-promise (ChainRead.Refused s) tol lent solved a b poses joints w e = tt
+refused-promise (ChainRead.Chain k) tol lent solved a b poses joints w e = record {
+  begun = λ c. absurd (false≢true (sym w ∙ all-pass k tol lent solved a b c .whole-is));
+  price = λ start cone room l h i. refused-price e;
+}
 
 module _ (chain : List ℕ) (tol : Tolerances) (lent solved p₀ j₀ : List Float) where
   abbrev whole : DivisionAnswer
@@ -39,7 +44,9 @@ module _ (chain : List ℕ) (tol : Tolerances) (lent solved p₀ j₀ : List Flo
 
   pub subdivide-lengths : {said : Division} → not (fourWhole (length lent) (length solved) (length p₀) (length j₀)) ≡ true → said ≡ lengthsRefused → So said p₀ j₀
   unfolding subdivideOf posesLeft jointsLeft
-  subdivide-lengths e s = (rw e s, (rw e, (rw e, rw e (refused-promise (readChain 72 chain) tol lent solved (length p₀) (length j₀) p₀ j₀ refl))))
+  subdivide-lengths e s =
+      let w = not-true (fourWhole (length lent) (length solved) (length p₀) (length j₀)) e in
+      (rw e s, (rw e, (rw e, rw e (refused-promise (readChain 72 chain) tol lent solved (length p₀) (length j₀) p₀ j₀ w refl))))
 
   pub subdivide-bytes : {r : Refusal} → not (fourWhole (length lent) (length solved) (length p₀) (length j₀)) ≡ false → readChain 72 chain ≡ ChainRead.Refused r → So (Refused r) p₀ j₀
   unfolding subdivideOf posesLeft jointsLeft

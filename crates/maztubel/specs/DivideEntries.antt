@@ -1,5 +1,7 @@
 -- What the two entries that divide answer, from the bytes and numbers that they are lent: first 20, then 29, then the checks of `divide`.
 use Prim.Native.Nat.{ℕ}
+use mathlib.Core.Path.{_≡_}
+use mathlib.Core.Logic.{_↔_}
 use mathlib.Core.Bool.{Bool, true, false, not, cond, _&&_}
 use mathlib.Core.List.{List}
 use lib.ListN.{length}
@@ -49,6 +51,11 @@ abbrev pub divisionLetter : Division → ℕ
 divisionLetter (Refused r) = r .letter
 divisionLetter (AtPose r) = r .letter
 divisionLetter (Ended d) = 0
+
+-- the number that is returned is 0 exactly where the path is divided, and 27 exactly where it needs a 10,001st pose
+pub record Says (number : ℕ) (answer : Division) : Type 0 where
+  pub done : (number ≡ served) ↔ ((n : ℕ) × (answer ≡ Ended (Done n)))
+  pub many : (number ≡ tooManyInsertions) ↔ ((n : ℕ) × (answer ≡ Ended (TooMany n)))
 
 abbrev pub lengthsRefused : Division
 lengthsRefused = Refused (refusal lengthsDiffer 0)

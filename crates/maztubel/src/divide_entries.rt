@@ -34,6 +34,7 @@ pub extern "C" fn maztubel_subdivide_path(
     ensures poses { λ n. ⌜ now («out_poses» .exit) ≡ posesLeft (S.subdivideOf (now (chain .entry)) (S.tolerances chord axis) (now (poses .entry)) (now (joints .entry)) (length (now («out_poses» .entry))) (length (now («out_joints» .entry)))) (now («out_poses» .entry)) ⌝ }
     ensures joints { λ n. ⌜ now («out_joints» .exit) ≡ jointsLeft (S.subdivideOf (now (chain .entry)) (S.tolerances chord axis) (now (poses .entry)) (now (joints .entry)) (length (now («out_poses» .entry))) (length (now («out_joints» .entry)))) (now («out_joints» .entry)) ⌝ }
     ensures price { λ n. ⌜ S.SubdividePromise (readChain 72 (now (chain .entry))) (S.tolerances chord axis) (now (poses .entry)) (now (joints .entry)) (length (now («out_poses» .entry))) (length (now («out_joints» .entry))) (divisionIn (S.subdivideOf (now (chain .entry)) (S.tolerances chord axis) (now (poses .entry)) (now (joints .entry)) (length (now («out_poses» .entry))) (length (now («out_joints» .entry))))) (now («out_poses» .exit)) (now («out_joints» .exit)) ⌝ }
+    ensures says { λ n. ⌜ S.Says n (divisionIn (S.subdivideOf (now (chain .entry)) (S.tolerances chord axis) (now (poses .entry)) (now (joints .entry)) (length (now («out_poses» .entry))) (length (now («out_joints» .entry))))) ⌝ }
 {
     let said = subdivide_of(chain, poses, joints, chord, axis, out_poses, out_joints);
     hand_over(said, inserted, at, letter)
@@ -60,6 +61,7 @@ pub extern "C" fn maztubel_solve_and_divide(
     ensures poses { λ n. ⌜ now («out_poses» .exit) ≡ posesLeft (S.bothOf (now (chain .entry)) (now (poses .entry)) (now (start .entry)) cone (S.tolerances chord axis) (length (now («out_poses» .entry))) (length (now («out_joints» .entry)))) (now («out_poses» .entry)) ⌝ }
     ensures joints { λ n. ⌜ now («out_joints» .exit) ≡ jointsLeft (S.bothOf (now (chain .entry)) (now (poses .entry)) (now (start .entry)) cone (S.tolerances chord axis) (length (now («out_poses» .entry))) (length (now («out_joints» .entry)))) (now («out_joints» .entry)) ⌝ }
     ensures price { λ n. ⌜ S.BothPromise (S.bothLengths (length (now (poses .entry))) (length (now (start .entry))) (length (now («out_poses» .entry))) (length (now («out_joints» .entry)))) (readChain 72 (now (chain .entry))) (now (poses .entry)) (startIn (now (start .entry))) cone (S.tolerances chord axis) (divisionIn (S.bothOf (now (chain .entry)) (now (poses .entry)) (now (start .entry)) cone (S.tolerances chord axis) (length (now («out_poses» .entry))) (length (now («out_joints» .entry))))) (now («out_poses» .entry)) (now («out_joints» .entry)) (now («out_poses» .exit)) (now («out_joints» .exit)) ⌝ }
+    ensures says { λ n. ⌜ S.Says n (divisionIn (S.bothOf (now (chain .entry)) (now (poses .entry)) (now (start .entry)) cone (S.tolerances chord axis) (length (now («out_poses» .entry))) (length (now («out_joints» .entry))))) ⌝ }
 {
     let said = both_of(
         chain,

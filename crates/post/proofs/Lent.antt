@@ -20,7 +20,7 @@ use Rattle.job.specs.declared.Job.{Job}
 use Rattle.job.specs.JobPoses.{posesOf, room, posesCheck, jobPoses}
 use Rattle.job.proofs.JobWithin.{Within, within, parts, rotaries}
 use Rattle.job.proofs.Copying.{length-numbers}
-use Rattle.post.specs.Posting.{pathOf}
+use Rattle.post.specs.Posting.{pathOf, Cabled}
 use Rattle.post.specs.Steps.{IsJob}
 use Rattle.post.proofs.Paths.{Sized, sized}
 
@@ -74,3 +74,11 @@ module _ (bytes : List ℕ) (j : Job) (is : IsJob bytes j) where
       let l = length-poses in
       let e : length (posesOf bytes j) / 6 ≡ j .poses = omega (arith, l) in
       rw e at (sized (j .chain) (posesOf bytes j) AtZero (j .cone) (record { chord = j .chord; axis = j .axis }))
+
+  pub cabled-job : (poses lent divided joints : List Float) → length poses ≡ 8172 → length divided ≡ 4200 → length joints ≡ 3500 → lent ≡ jobPoses bytes poses
+      → Cabled (j .chain) (solveAndDivide (j .chain) (take (6 * j .poses) lent) AtZero (j .cone) (record { chord = j .chord; axis = j .axis }) (length divided) (length joints))
+      → Cabled (j .chain) (pathOf bytes j)
+  unfolding pathOf
+  cabled-job poses lent divided joints p q r e c =
+      let t : take (6 * j .poses) lent ≡ posesOf bytes j = rw e (lent-poses poses p) in
+      rw (t, q, r) at c

@@ -1,3 +1,4 @@
 pub mod Shown
 pub mod Paths
 pub mod Lent
+pub mod Cables

@@ -1,5 +1,7 @@
 -- What the program writes for the bytes that it reads, as one text: `post`. Space is for 700 poses, and the path is solved from angles zero.
+-- `NeverRefused`: a path that division served is never refused afterwards.
 use Prim.Native.Nat.{ℕ}
+use mathlib.Core.Path.{_≡_}
 use mathlib.Core.List.{List, [], map}
 use lib.Ieee.{Float}
 use Rattle.lists.specs.Rows.{flat}
@@ -8,7 +10,7 @@ use Rattle.chain.specs.declared.Joints.{Joints}
 use Rattle.chain.specs.declared.Kinematics.{Kinematics}
 use Rattle.path.specs.declared.Start.the-variants.{AtZero}
 use Rattle.path.specs.Solving.{jointNumbers}
-use Rattle.halving.specs.Halving.{items}
+use Rattle.halving.specs.Halving.{Done, items}
 use Rattle.machine.specs.declared.Divided.{Divided}
 use Rattle.machine.specs.declared.Divided.the-variants as Divided
 use Rattle.divide.specs.declared.Division.{Division}
@@ -69,3 +71,15 @@ postRead bytes (JobRead.Refused r) = textOf (Ended.Refused r) []
 
 unfoldable pub post : List ℕ → List ℕ
 post bytes = postRead bytes (readJob 72 bytes)
+
+-- ---- a path that division served is never refused
+-- its cable numbers are answered, of every rotary
+pub record Cabled (k : Kinematics) (answer : DivisionAnswer) : Type 0 where
+  pub turns : (n : ℕ) (l : List Item) → answer ≡ Halved (Done n l) → (rotary : ℕ)
+      → (t : ℕ) × (cableNumber k (flat jointNumbers (map (λ (i : Item). i .joints) l)) rotary ≡ Cable.Turns t)
+
+-- so what is written is the path, with the count of division and both cable numbers
+pub record NeverRefused (bytes : List ℕ) : Type 0 where
+  pub told : (j : Job) (n : ℕ) (l : List Item) → readJob 72 bytes ≡ JobRead.Job j → pathOf bytes j ≡ Halved (Done n l)
+      → (first : ℕ) × ((second : ℕ)
+      × (post bytes ≡ textOf (Ended.Divided (record { inserted = n; first = first; second = second })) (map (λ (i : Item). i .joints) l)))

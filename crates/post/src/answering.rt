@@ -31,6 +31,7 @@ pub fn post(
     requires { ⌜ Steps.Rooms (length (now poses)) (length (now divided)) (length (now joints)) (length (now text)) ⌝ }
     ensures end { λ r. ⌜ r ≡ length (S.post (now (bytes .entry))) ⌝ }
     ensures text { λ r. ⌜ take r (now (text .exit)) ≡ S.post (now (bytes .entry)) ⌝ }
+    ensures served { λ r. ⌜ S.NeverRefused (now (bytes .entry)) ⌝ }
 {
     match job::read_job(bytes) {
         JobRead::Job(j) => post_job(bytes, j, poses, divided, joints, text),
@@ -50,6 +51,7 @@ fn post_job(
     requires read { ⌜ Steps.IsJob (now bytes) j ⌝ }
     ensures end { λ r. ⌜ r ≡ length (S.pathText (j .chain) (S.pathOf (now (bytes .entry)) j)) ⌝ }
     ensures text { λ r. ⌜ take r (now (text .exit)) ≡ S.pathText (j .chain) (S.pathOf (now (bytes .entry)) j) ⌝ }
+    ensures served { λ r. ⌜ S.Cabled (j .chain) (S.pathOf (now (bytes .entry)) j) ⌝ }
 {
     let k = j.chain;
     let given = j.poses as usize;
@@ -70,6 +72,7 @@ fn solve(
     requires read { ⌜ Steps.IsJob (now bytes) j ⌝ }
     ensures answer { λ r. ⌜ r ≡ divisionIn (S.pathOf (now (bytes .entry)) j) ⌝ }
     ensures joints { λ r. ⌜ now (joints .exit) ≡ jointsLeft (S.pathOf (now (bytes .entry)) j) (now (joints .entry)) ⌝ }
+    ensures served { λ r. ⌜ S.Cabled (j .chain) (S.pathOf (now (bytes .entry)) j) ⌝ }
 {
     job::job_poses(bytes, poses);
     let numbers = 6 * j.poses as usize;

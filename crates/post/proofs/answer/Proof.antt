@@ -23,12 +23,13 @@ post-requires c κs = search needs
 
 array-share-prefix-text : tie.Need-array-share-prefix-text
 array-share-prefix-text c =
-    let h = lies-within _ _ _ (c .before .before .before .before .post .ensures) in
+    let e = c .before .before .before .before .post .ensures in
+    let h = lies-within _ _ _ (e .0, e .1 .0) in
     let k = c .before .before .before .before .post .kept .1 .1 .1 .1 .0 in
     omega (arith, h, k)
 
 slice-aggregate-write-all : tie.Need-slice-aggregate-write-all
-slice-aggregate-write-all c = let e = c .before .before .before .before .before .post .ensures in e .0 ∙ sym (ap length (e .1))
+slice-aggregate-write-all c = let e = c .before .before .before .before .before .post .ensures in e .0 ∙ sym (ap length (e .1 .0))
 
 write-all-requires : tie.Need-write-all-requires
 write-all-requires c κs = search needs

@@ -2,6 +2,7 @@ use borrow.Author.Needs.{needs}
 use native.Mathlib.Omega.{arith}
 use mathlib.Core.Path.{sym, _∙_}
 use Rattle.post.specs.Posting.{post}
+use Rattle.post.proofs.Cables.{job-told, no-job-told}
 use Rattle.post.proofs.answering.post.Statement.{statement}
 use Rattle.post.proofs.answering.post.Tie as tie
 
@@ -40,7 +41,10 @@ same-length-4 c = search needs
 
 returns : tie.Need-returns
 unfolding post
-returns c = rw (sym (c .before .before .before .before .before .before .before .before .before .before .before .before .before .before .before .before .read-job .ensures) ∙ c .before .before .before .before .before .before .before .before .before .before .before .before .before .before .j .given .1) (c .before .before .before .before .before .before .before .before .post-job .ensures)
+returns c =
+    let e = sym (c .before .before .before .before .before .before .before .before .before .before .before .before .before .before .before .before .read-job .ensures) ∙ c .before .before .before .before .before .before .before .before .before .before .before .before .before .before .j .given .1 in
+    let t = c .before .before .before .before .before .before .before .before .post-job .ensures in
+    (rw e (t .0), (rw e (t .1 .0), job-told _ _ e (t .1 .1)))
 
 same-length-5 : tie.Need-same-length-5
 same-length-5 c = search needs
@@ -50,7 +54,10 @@ same-length-6 c = search needs
 
 returns-2 : tie.Need-returns-2
 unfolding post
-returns-2 c = rw (sym (c .before .before .before .before .before .before .before .before .read-job .ensures) ∙ c .before .before .before .before .before .before .r .given .1) (c .before .before .tell .ensures)
+returns-2 c =
+    let e = sym (c .before .before .before .before .before .before .before .before .read-job .ensures) ∙ c .before .before .before .before .before .before .r .given .1 in
+    let t = c .before .before .tell .ensures in
+    (rw e (t .0), (rw e (t .1), no-job-told _ _ e))
 
 pub post-spec : {M : Type 1} → statement M
 post-spec = tie.close (tie.spec read-job-requires enum-known-j post-job-requires enum-known-r slice-reshare-prefix-tell slice-aggregate-tell tell-requires same-length same-length-2 same-length-3 same-length-4 returns same-length-5 same-length-6 returns-2)

@@ -71,8 +71,9 @@ returns : tie.Need-returns
 returns c =
     let a = c .before .before .before .before .before .before .before .before .before .before .before .before .before .before .before .before .before .before .before .before .before .before .before in
     let s = c .before .before .before .before .before .before .before .before .before .before .before .before .solve .ensures in
-    let e = concluded (a .args .j .chain) (a .args .j .poses) (pathOf (a .args .bytes .now) (a .args .j)) _ (a .args .joints .now) _ _ (sized-job (a .args .bytes .now) (a .args .j) (a .pre .1)) (s .0) (s .1) (c .before .before .before .before .before .path-length .ensures) in
-    rw e at (c .before .before .conclude .ensures)
+    let e = concluded (a .args .j .chain) (a .args .j .poses) (pathOf (a .args .bytes .now) (a .args .j)) _ (a .args .joints .now) _ _ (sized-job (a .args .bytes .now) (a .args .j) (a .pre .1)) (s .0) (s .1 .0) (c .before .before .before .before .before .path-length .ensures) in
+    let t = rw e at (c .before .before .conclude .ensures) in
+    (t .0, (t .1, s .1 .1))
 
 pub post-job-spec : {M : Type 1} → statement M
 post-job-spec = tie.close (tie.spec cast-given solve-requires path-length-requires mul-numbers slice-reshare-prefix-conclude slice-aggregate-conclude conclude-requires same-length same-length-2 same-length-3 same-length-4 returns)

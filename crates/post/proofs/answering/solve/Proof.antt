@@ -2,7 +2,9 @@ use borrow.Author.Needs.{needs}
 use native.Mathlib.Omega.{arith}
 use mathlib.Core.Path.{sym}
 use lib.Seq.{length-take-le}
-use Rattle.post.proofs.Lent.{few-poses, solved}
+use Rattle.path.specs.declared.Start.the-variants.{AtZero}
+use Rattle.post.proofs.Lent.{few-poses, solved, cabled-job}
+use Rattle.post.proofs.Cables.{path-cabled}
 use Rattle.post.proofs.answering.solve.Statement.{statement}
 use Rattle.post.proofs.answering.solve.Tie as tie
 
@@ -47,7 +49,12 @@ returns : tie.Need-returns
 returns c =
     let a = c .before .before .before .before .before .before .before .before .before .before .before .before .before .before .before .before .before .before in
     let said = c .before .before .before .before .solve-and-divide .ensures in
-    solved (a .args .bytes .now) (a .args .j) (a .pre .1) (a .args .poses .now) _ (a .args .divided .now) (a .args .joints .now) _ _ (a .pre .0 .for-poses) (a .pre .0 .for-divided) (a .pre .0 .for-joints) (c .before .before .before .before .before .before .before .before .before .before .before .before .job-poses .ensures .1) (said .0) (said .1 .1 .0)
+    let lent = c .before .before .before .before .before .before .before .before .before .before .before .before .job-poses .ensures .1 in
+    let room = a .pre .0 in
+    let s = solved (a .args .bytes .now) (a .args .j) (a .pre .1) (a .args .poses .now) _ (a .args .divided .now) (a .args .joints .now) _ _ (room .for-poses) (room .for-divided) (room .for-joints) lent (said .0) (said .1 .1 .0) in
+    let k = a .args .j .chain in
+    let cabled = path-cabled k _ AtZero (a .args .j .cone) (record { chord = a .args .j .chord; axis = a .args .j .axis }) (a .args .divided .now) (a .args .joints .now) (said .1 .1 .1) (said .0) (said .1 .0) (said .1 .1 .0) in
+    (s .0, (s .1, cabled-job (a .args .bytes .now) (a .args .j) (a .pre .1) (a .args .poses .now) _ (a .args .divided .now) (a .args .joints .now) (room .for-poses) (room .for-divided) (room .for-joints) lent cabled))
 
 pub solve-spec : {M : Type 1} → statement M
 solve-spec = tie.close (tie.spec job-poses-requires cast-numbers mul-numbers slice-reshare-prefix-solve-and-divide slice-aggregate-solve-and-divide solve-and-divide-requires same-length same-length-2 same-length-3 returns)
