@@ -1,9 +1,11 @@
 //! What comes of dividing paths: how often each answer was met, on each type of machine and with each kind of space, the differences
-//! from what is expected, and how far the answers lie from those that the Rust gives with libm.
+//! from what is expected, and how far the answers lie from those that the Rust gives with libm. Every division that is served is also
+//! divided with looser tolerances, and its result once more.
 
 use crate::divided::{Answer, Divided, MOST_INSERTED, Told, Verdict, ask, expected, telling};
 use crate::divided_with_libm::WithLibm;
 use crate::divisions::{Division, From, Rooms, spaces};
+use crate::loosened::{self, HOW, Record, WHICH};
 use crate::met::{Account, Differences, Met};
 use crate::original::ported::kinematics::{Joints, Kinematics, ToolPose};
 use crate::parts::Outcome;
@@ -90,6 +92,10 @@ const NEIGHBOURS: [&str; 4] = [
     "neighbours with opposite axes",
 ];
 
+/// What a looser division, and a second one, of a served path must be met with.
+const FEWER: &str = "looser, fewer inserted";
+const AGAIN: &str = "divided again";
+
 /// Long paths, and those that need as many insertions as may be, or one less, or one more: each once at least.
 const LONG: &str = "served, 100000 poses, thousands inserted";
 const NEEDED: [&str; 3] = ["needs 9999", "needs 10000", "needs 10001"];
@@ -98,6 +104,8 @@ const NEEDED: [&str; 3] = ["needs 9999", "needs 10000", "needs 10001"];
 pub struct Insertions {
     met: Met,
     calls: [u64; 2],
+    /// How many looser divisions there were: each way to loosen comes in turn.
+    loosened: usize,
     poses: u64,
     differences: Differences,
     with_libm: [WithLibm; 2],
@@ -109,6 +117,7 @@ impl Outcome for Insertions {
         for (calls, more) in self.calls.iter_mut().zip(more.calls) {
             *calls += more;
         }
+        self.loosened += more.loosened;
         self.poses += more.poses;
         self.differences.add(more.differences);
         for (sum, more) in self.with_libm.iter_mut().zip(more.with_libm) {
@@ -153,6 +162,7 @@ impl Insertions {
         let verdict = expected(division);
         let spaces = spaces(&verdict, random);
         self.compare_with(division, &verdict, &spaces);
+        self.compare_later(division, &verdict, 1);
         if random.below(LOOKED_INTO) == 0 {
             self.look_into(division, &verdict);
         }
@@ -170,6 +180,7 @@ impl Insertions {
         let spaces = (0..=most)
             .flat_map(|poses| (0..=most).map(move |joints| [POSE * poses, JOINTS * joints]));
         self.compare_with(division, &verdict, &spaces.collect::<Vec<_>>());
+        self.compare_later(division, &verdict, WHICH.len() * HOW.len());
         self.look_into(division, &verdict);
     }
 
@@ -182,6 +193,67 @@ impl Insertions {
         } = verdict
         {
             self.look(division, divided);
+        }
+    }
+
+    /// Of a division that is served where there is space: so many looser ones, and the divided path again.
+    fn compare_later(&mut self, division: &Division, verdict: &Verdict, ways: usize) {
+        let Verdict::Judged {
+            then: Ok(divided), ..
+        } = verdict
+        else {
+            return;
+        };
+        let given = loosened::given(division);
+        for _ in 0..ways {
+            let (which, how) = (
+                self.loosened % WHICH.len(),
+                self.loosened / WHICH.len() % HOW.len(),
+            );
+            self.loosened += 1;
+            let told = loosened::ask_looser(division, divided, which, how);
+            self.hold_looser(division, divided, &given, [which, how], &told);
+        }
+        if let Some(again) = loosened::repeated(division, divided) {
+            let told = ask(&again, loosened::rooms(divided));
+            self.hold_again(division, divided, &again, &told);
+        }
+    }
+
+    fn hold_looser(
+        &mut self,
+        division: &Division,
+        divided: &Divided,
+        given: &[Record],
+        [which, how]: [usize; 2],
+        told: &Told,
+    ) {
+        let entry = entry(division);
+        self.calls[usize::from(entry == ALONE)] += 1;
+        let words = format!("{entry}, looser: {}, {}", WHICH[which], HOW[how]);
+        let fewer = told.inserted[1] < divided.inserted as u64;
+        self.met.count_if(&format!("{entry}, {FEWER}"), fewer);
+        self.met.count(words.as_str());
+        if let Some(broken) = loosened::dearer(divided, given, told) {
+            let example = || format!("{words}: {broken}: {division}\n    told {told}");
+            self.differences.note(example);
+        }
+    }
+
+    fn hold_again(
+        &mut self,
+        division: &Division,
+        divided: &Divided,
+        again: &Division,
+        told: &Told,
+    ) {
+        self.calls[usize::from(entry(again) == ALONE)] += 1;
+        self.met.count(format!("{}, {AGAIN}", entry(division)));
+        let must = loosened::the_same(divided);
+        if *told != must {
+            let rest = first_differences(told, &must);
+            self.differences
+                .note(|| format!("{AGAIN}: {again}\n{rest}"));
         }
     }
 
@@ -319,6 +391,11 @@ fn all(fewest: u64) -> Vec<(String, u64)> {
         );
         let machines = MACHINES.map(|machine| format!("{entry}, inserted on {machine}"));
         all.extend(machines.map(|what| (what, fewest)));
+        let later = [FEWER, AGAIN].map(|what| format!("{entry}, {what}"));
+        all.extend(later.map(|what| (what, fewest)));
+        let ways = WHICH.iter().flat_map(|which| HOW.map(|how| (*which, how)));
+        let ways = ways.map(|(which, how)| format!("{entry}, looser: {which}, {how}"));
+        all.extend(ways.map(|what| (what, fewest)));
         if entry == BOTH {
             all.push((format!("{entry}, {STOP}"), fewest));
         }

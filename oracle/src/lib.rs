@@ -45,6 +45,8 @@ pub mod job_tally;
 pub mod jobs;
 pub mod joints;
 pub mod lean;
+#[cfg(original)]
+pub mod loosened;
 pub mod machines;
 pub mod maztubel;
 pub mod met;

@@ -8,6 +8,7 @@ use crate::divisions::{Division, From, Rooms, spaces};
 use crate::inverse_calls::{self, LENT_COUNT};
 use crate::inverse_cases;
 use crate::inverse_reference;
+use crate::loosened::{self, HOW, WHICH};
 use crate::paths::{JOINTS, POSE, Path};
 use crate::random::Random;
 use crate::reference;
@@ -155,6 +156,47 @@ pub fn of_too_many(entry: &str) -> Option<Replayed> {
     )
 }
 
+/// so many divisions of given joints, each followed by a looser one with the same space and by its own result, divided again.
+/// Every way to loosen comes in turn.
+pub fn of_later(count: usize, random: &mut Random) -> Vec<Replayed> {
+    let mut cases = Vec::new();
+    for i in 0..count {
+        let of_some = std::iter::repeat_with(|| later(i, random)).flatten();
+        cases.extend(of_some.take(1).flatten());
+    }
+    cases
+}
+
+/// None where the path is long, or nothing is inserted.
+fn later(i: usize, random: &mut Random) -> Option<Vec<Replayed>> {
+    let [_, division] = Division::drawn(random);
+    let verdict = divided::expected(&division);
+    let divided::Verdict::Judged {
+        then: Ok(divided), ..
+    } = &verdict
+    else {
+        return None;
+    };
+    if divided.inserted == 0 || !few(&divided.poses) {
+        return None;
+    }
+    let rooms = loosened::rooms(divided);
+    let wider = loosened::loosened(&division, i % WHICH.len(), i / WHICH.len() % HOW.len());
+    let again = loosened::repeated(&division, divided)?;
+    [division, wider, again]
+        .iter()
+        .map(|division| {
+            of_rooms(
+                "subdivide_path",
+                division,
+                divided::expected(division).with(rooms),
+                rooms,
+            )
+        })
+        .collect()
+}
+
+/// What a call must tell with such a space.
 fn of_rooms(entry: &str, division: &Division, answer: Answer, rooms: Rooms) -> Option<Replayed> {
     let told = divided::telling(answer, rooms);
     let [poses, joints] = lent_twice(&told.told.numbers, rooms);

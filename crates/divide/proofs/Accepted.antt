@@ -1,5 +1,6 @@
--- A division that is accepted, taken apart: the checks that pass, the space for what is given, and the halving that is done.
-use Prim.Native.Nat.{ℕ, _+_, _≤_}
+-- A division that is accepted, taken apart: the checks that pass, the space for what is given, and the halving that is
+-- done.
+use Prim.Native.Nat.{ℕ, _≤_}
 use mathlib.Core.Path.{_≡_, refl, ap}
 use mathlib.Core.Bool.{Bool, true, false, cond, false≢true}
 use mathlib.Core.List.{List}

@@ -1,4 +1,5 @@
--- The call of both: each way out of solving, and then division, is what the definition says; and demand 3 holds through what division promises of joints that were solved.
+-- The call of both: each way out of solving, and then division, is what the definition says; and demand 3 and R-12 hold
+-- through what division promises of joints that were solved.
 use Prim.Native.Nat.{ℕ, _*_, _/_, _≤_}
 use native.Mathlib.Omega.{arith}
 use mathlib.Core.Path.{_≡_, refl, sym, ap, _∙_, subst}
@@ -36,6 +37,7 @@ use Rattle.machine.specs.Dividing.{posesOver, jointsOver}
 use Rattle.divide.specs.Subdividing.{DivisionAnswer, divisionIn, posesLeft, jointsLeft, given, clearing, subdividePath, threeWhole, bothCheck, solvedPath, foundIn, solveAndDivide}
 use Rattle.turn.specs.Items.{spaceIn}
 use Rattle.divide.specs.Subdividing as Ways
+use Rattle.divide.specs.Looser.{Later}
 use Rattle.divide.specs.Price.{AllZero, Checks, Price, IfSolved, SolvedAndDivided}
 use Rattle.turn.proofs.Stored.{joints-codec}
 use Rattle.machine.proofs.Copies.{joints-by-length}
@@ -116,6 +118,7 @@ module _ (k : Kinematics) (lent : List Float) (start : Start) (cone : Float) (to
               refused = λ l q w c. absurd (kept-along (sym f ∙ w));
               begun = λ l w c. absurd (kept-along (sym f ∙ w));
               price = λ l w. absurd (kept-along (sym f ∙ w));
+              later = λ l w. absurd (kept-along (sym f ∙ w));
             },
           ),
         ),
@@ -142,6 +145,7 @@ module _ (k : Kinematics) (lent : List Float) (start : Start) (cone : Float) (to
               refused = λ l q w c. absurd (at-pose-along (sym f ∙ w));
               begun = λ l w c. absurd (at-pose-along (sym f ∙ w));
               price = λ l w. absurd (at-pose-along (sym f ∙ w));
+              later = λ l w. absurd (at-pose-along (sym f ∙ w));
             },
           ),
         ),
@@ -165,8 +169,9 @@ module _ (k : Kinematics) (lent : List Float) (start : Start) (cone : Float) (to
     division-begun {said} c s = subst Checks (sym (s ∙ ap divisionIn whole-so)) (rw c tt)
 
     pub both-along : {said : Division} {poses joints : List Float} → said ≡ divisionIn whole → poses ≡ posesLeft whole p₀ → joints ≡ jointsLeft whole j₀
-        → Price k tol (spaceIn (length p₀) (length j₀)) (given lent (flat jointNumbers l)) said poses joints → So said poses joints
-    both-along {said} {poses} {joints} s u v price = (
+        → Price k tol (spaceIn (length p₀) (length j₀)) (given lent (flat jointNumbers l)) said poses joints
+        → Later k tol lent (flat jointNumbers l) (length p₀) (length j₀) said poses joints → So said poses joints
+    both-along {said} {poses} {joints} s u v price later = (
       s,
       (
         u,
@@ -184,6 +189,9 @@ module _ (k : Kinematics) (lent : List Float) (start : Start) (cone : Float) (to
             price = λ m w.
                 let e = along-one (sym along ∙ w) in
                 subst (λ (z : List Joints). Price k tol (spaceIn (length p₀) (length j₀)) (given lent (flat jointNumbers z)) said poses joints) e price;
+            later = λ m w.
+                let e = along-one (sym along ∙ w) in
+                subst (λ (z : List Joints). Later k tol lent (flat jointNumbers z) (length p₀) (length j₀) said poses joints) e later;
           },
         ),
       ),
@@ -193,9 +201,10 @@ module _ (k : Kinematics) (lent : List Float) (start : Start) (cone : Float) (to
   pub both-divided : {said : Division} {poses joints j₁ : List Float} → bothCheck k start cone (length lent) (length p₀) (length j₀) ≡ Checked.Passed
       → checkedIn (solveChecked k lent start cone) ≡ Checked.Passed → j₁ ≡ pathOver (solveChecked k lent start cone) j₀ → length j₁ ≡ length j₀
       → said ≡ divisionIn (foundIn k tol lent (length p₀) j₁) → poses ≡ posesLeft (foundIn k tol lent (length p₀) j₁) p₀ → joints ≡ jointsLeft (foundIn k tol lent (length p₀) j₁) j₁
-      → IfSolved k tol lent (take (length lent / 6 * 5) j₁) (length p₀) (length j₁) said poses joints → So said poses joints
+      → IfSolved k tol lent (take (length lent / 6 * 5) j₁) (length p₀) (length j₁) said poses joints
+      → Later k tol lent (take (length lent / 6 * 5) j₁) (length p₀) (length j₁) said poses joints → So said poses joints
   unfolding pathOver foundIn
-  both-divided {said} {poses} {joints} {j₁} e h v n s u w price = go (solved-along k lent start cone h)
+  both-divided {said} {poses} {joints} {j₁} e h v n s u w price later = go (solved-along k lent start cone h)
     where
       go : (l : List Joints) × (solveChecked k lent start cone ≡ Along l) → So said poses joints
       go (l, g) =
@@ -218,3 +227,5 @@ module _ (k : Kinematics) (lent : List Float) (start : Start) (cone : Float) (to
           (subst (λ (i : ℕ). Price k tol (spaceIn (length p₀) i) (given lent (flat jointNumbers l)) said poses joints) n
           (subst (λ (z : List Float). Price k tol (spaceIn (length p₀) (length j₁)) (given lent z) said poses joints) front
           (price .price start cone (spaceIn (length p₀) (length j₀) * 5) l path front)))
+          (subst (λ (i : ℕ). Later k tol lent (flat jointNumbers l) (length p₀) i said poses joints) n
+          (subst (λ (z : List Float). Later k tol lent z (length p₀) (length j₁) said poses joints) front later))

@@ -1,9 +1,9 @@
--- The checks of a division that pass, each by itself, and back; and what they leave to the machine: whole records, as many of
--- either kind.
+-- The checks of a division that pass, each by itself, and back; and what they leave to the machine: whole records, as
+-- many of either kind.
 use Prim.Native.Nat.{ℕ, _*_, _/_, _%_}
 use native.Mathlib.Omega.{arith}
 use mathlib.Core.Path.{_≡_}
-use mathlib.Core.Bool.{Bool, true, _&&_}
+use mathlib.Core.Bool.{Bool, true}
 use borrow.Author.Tests.{eqb-true}
 use lib.Dec.{eqb}
 use lib.ListN.{length}

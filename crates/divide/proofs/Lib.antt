@@ -10,7 +10,9 @@ pub mod Price
 pub mod PricePath
 pub mod PriceLent
 pub mod PriceRefutes
-pub mod Forwarded
+pub mod Dearer
+pub mod Again
+pub mod Later
 pub mod Subdivides
 pub mod BothCalls
 pub mod Parallel

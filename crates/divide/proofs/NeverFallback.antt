@@ -4,41 +4,35 @@
 -- direction. And the angle that is compared with the axis tolerance, and the axis between two that it is taken from,
 -- are made of an arctangent, an arccosine and sines that are all served.
 use mathlib.Core.Path.{_≡_, refl, sym, ap, _∙_, subst}
-use mathlib.Core.Bool.{Bool, true, false, not, _&&_, and-eq-true-iff}
+use mathlib.Core.Bool.{true, false, _&&_, and-eq-true-iff}
 use mathlib.Core.List.{List, [], _∷_, List·Memᴰ}
 use Prim.Native.Nat.{ℕ, zero, suc, _+_, _/_, _^_}
 use lib.Dec.{T, eqb, leb, eqb→eq, lit≤}
 use lib.ListN.{length, getD, drop}
 use lib.Seq.{getD-drop}
 use lib.Ieee.{Float, nan, binary64, le, lt, eq, ofBits, fits}
-use lib.Ieee.Bits.{ofBits-fits}
 use Rattle.lists.specs.Each.{Each}
 use Rattle.lists.specs.Rows.{rows}
 use Rattle.lists.specs.Search.{all}
 use Rattle.lists.proofs.Each.{each-passes, each-both}
-use Rattle.float.specs.Units.{U, Is}
+use Rattle.float.specs.Units.{U}
 use Rattle.float.specs.Helpers.{nought, sizeOf}
 use Rattle.float.proofs.UpTo.{UpTo}
-use Rattle.float.proofs.Between.{ten-million-big}
 use Rattle.refusal.specs.Numbers as Numbers
-use Rattle.geometry.specs.Vector.{lerpVec}
-use Rattle.geometry.specs.Slerp.{slerpAxis, angleBetweenDeg}
+use Rattle.geometry.specs.Slerp.{slerpAxis}
 use Rattle.geometry.proofs.AngleBetween.{angle-between}
 use Rattle.geometry.proofs.FitVectors.{FitVec, unit-or-fits}
 use Rattle.geometry.proofs.PlainSlerp.{plainSlerp, slerp-plain, slerp-fits}
-use Rattle.chain.specs.declared.Checked.{Checked}
 use Rattle.chain.specs.declared.Checked.the-variants.{Passed}
 use Rattle.chain.specs.declared.Joints.{Joints}
 use Rattle.chain.specs.declared.Kinematics.{Kinematics}
 use Rattle.chain.specs.declared.Posed.the-variants.{At}
-use Rattle.chain.specs.declared.Prepared.{Prepared}
-use Rattle.chain.specs.Check.{demand, chainCheck, within, allWithin, longest, farthest, mostTurned, jointsFinite, jointsWithin, pivotsWithin}
+use Rattle.chain.specs.Check.{demand, chainCheck, within, longest, jointsWithin, pivotsWithin}
 use Rattle.chain.specs.Forward.{turnsOf, reach, forwardCore, lengthGood, forwardSizes, forwardCheck, forward}
 use Rattle.chain.specs.Prepared.{prepared}
 use Rattle.chain.proofs.NeverFallback.{ForwardPlain, forward-plain}
 use Rattle.chain.proofs.Passing.{then-passed, demand-passed}
-use Rattle.chain.proofs.ReadyLaws.{within-finite, all-within-finite, over-farthest, over-turned}
-use Rattle.chain.proofs.UnitAxes.{FitAxes, UnitChain, chain-units}
+use Rattle.chain.proofs.UnitAxes.{FitAxes, chain-units}
 use Rattle.path.specs.Solving.{posesIn, poseFrom, pathChain}
 use Rattle.path.proofs.NeverFallback.{plainAngleBetween}
 use Rattle.path.proofs.Room.{chain-of-path}
@@ -50,59 +44,8 @@ use Rattle.middle.specs.Testing.{half, lerpJoints, poseOf, midpoint, axisGap, d
 use Rattle.turn.specs.Items.{jointsFrom, item, itemsIn}
 use Rattle.divide.specs.Checking.{toleranceGood, allFinite, tipWithin, jointSetsIn, divisionSizes, fourWhole, checksInOrder, divisionCheck}
 use Rattle.divide.specs.Subdividing.{given}
-use Rattle.divide.proofs.PriceSound.{turned-big, mid-fits, mid-within, mid-all-within}
+use Rattle.divide.proofs.PriceSound.{Sized, sized-mid, sizes-finite}
 use Rattle.divide.proofs.PricePath.{paired-given}
-
--- ---- joint sets of doubles, within document 01's sizes
-pub record Sized (j : Joints) : Type 0 where
-  pub sizes : jointsWithin j ≡ true
-  pub fits-x : T (fits binary64 (j .xyz .x))
-  pub fits-y : T (fits binary64 (j .xyz .y))
-  pub fits-z : T (fits binary64 (j .xyz .z))
-  pub fits-a0 : T (fits binary64 (j .a0))
-  pub fits-a1 : T (fits binary64 (j .a1))
-
-record Sizes (j : Joints) : Type 0 where
-  xyz : allWithin (j .xyz) farthest ≡ true
-  a0 : within (j .a0) mostTurned ≡ true
-  a1 : within (j .a1) mostTurned ≡ true
-
-sizes-of : (j : Joints) → jointsWithin j ≡ true → Sizes j
-unfolding jointsWithin
-sizes-of j h =
-    let a = and-eq-true-iff (allWithin (j .xyz) farthest && within (j .a0) mostTurned) (within (j .a1) mostTurned) .0 h in
-    let b = and-eq-true-iff (allWithin (j .xyz) farthest) (within (j .a0) mostTurned) .0 (a .0) in
-    record { xyz = b .0; a0 = b .1; a1 = a .1 }
-
-sized-finite : (j : Joints) → jointsWithin j ≡ true → jointsFinite j ≡ true
-unfolding jointsFinite
-sized-finite j h =
-    let s = sizes-of j h in
-    rw (all-within-finite farthest over-farthest (j .xyz) (s .xyz), within-finite mostTurned over-turned (j .a0) (s .a0), within-finite mostTurned over-turned (j .a1) (s .a1))
-
--- a midpoint of two is one
-module _ (a b : Joints) (A : Sized a) (B : Sized b) where
-  mid-sizes : jointsWithin (lerpJoints a b) ≡ true
-  unfolding jointsWithin lerpJoints
-  mid-sizes =
-      let s = sizes-of a (A .sizes) in
-      let t = sizes-of b (B .sizes) in
-      rw (
-        mid-all-within farthest ten-million-big (a .xyz) (b .xyz) (A .fits-x) (A .fits-y) (A .fits-z) (B .fits-x) (B .fits-y) (B .fits-z) (s .xyz) (t .xyz),
-        mid-within (a .a0) (b .a0) (A .fits-a0) (B .fits-a0) mostTurned turned-big (s .a0) (t .a0),
-        mid-within (a .a1) (b .a1) (A .fits-a1) (B .fits-a1) mostTurned turned-big (s .a1) (t .a1),
-      )
-
-  pub sized-mid : Sized (lerpJoints a b)
-  unfolding lerpJoints lerpVec
-  sized-mid = record {
-    sizes = mid-sizes;
-    fits-x = mid-fits (a .xyz .x) (b .xyz .x);
-    fits-y = mid-fits (a .xyz .y) (b .xyz .y);
-    fits-z = mid-fits (a .xyz .z) (b .xyz .z);
-    fits-a0 = mid-fits (a .a0) (b .a0);
-    fits-a1 = mid-fits (a .a1) (b .a1);
-  }
 
 -- ---- one pose
 -- `forward` answers the pose that division takes of a joint set, and takes no fallback
@@ -121,7 +64,7 @@ no-tool = refl
 module _ (k : Kinematics) (F : FitAxes k) (passed : chainCheck k ≡ Passed) (pivots : pivotsWithin k ≡ true) where
   joints-passed : (j : Joints) → jointsWithin j ≡ true → forwardCheck k j nought ≡ Passed
   unfolding forwardCheck forwardSizes
-  joints-passed j h = rw (no-length, passed, sized-finite j h, no-tool, h, pivots)
+  joints-passed j h = rw (no-length, passed, sizes-finite j h, no-tool, h, pivots)
 
   pub pose-plain : (j : Joints) → jointsWithin j ≡ true → PosePlain k j
   unfolding poseOf
@@ -162,7 +105,7 @@ module _ (k : Kinematics) (F : FitAxes k) (passed : chainCheck k ≡ Passed) (pi
   segment-plain A B = record {
     left = pose-plain k F passed pivots (x .joints) (A .sizes);
     right = pose-plain k F passed pivots (y .joints) (B .sizes);
-    middle = pose-plain k F passed pivots (lerpJoints (x .joints) (y .joints)) (mid-sizes (x .joints) (y .joints) A B);
+    middle = pose-plain k F passed pivots (lerpJoints (x .joints) (y .joints)) (sized-mid (x .joints) (y .joints) A B .sizes);
     taken = refl;
     gap = gap-plain;
   }

@@ -1,4 +1,5 @@
--- Demand 3 holds of document 01's halving, for every list of poses with solved joints that pass division's checks: `priced`.
+-- Demand 3 holds of document 01's halving, for every list of poses with solved joints that pass division's checks:
+-- `priced`.
 use Prim.Native.Nat.{ℕ, suc, _+_, _-_, _≤_, _<_}
 use native.Mathlib.Nat.{zero-add}
 use mathlib.Core.Path.{_≡_, refl, sym, _∙_}

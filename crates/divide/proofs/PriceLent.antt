@@ -66,7 +66,7 @@ countIn (Ended (Done n)) = n
 countIn (Ended (TooMany n)) = n
 countIn (Ended (NoSpace n)) = n
 
-done-by : (answer : Answer Item) (n : ℕ) → Ended (dividedIn answer) ≡ Ended (Done n) → (l : List Item) × (answer ≡ Halving.Done n l)
+pub done-by : (answer : Answer Item) (n : ℕ) → Ended (dividedIn answer) ≡ Ended (Done n) → (l : List Item) × (answer ≡ Halving.Done n l)
 done-by (Halving.Done m l) n e = (l, ap (λ (i : ℕ). Halving.Done i l) (ap countIn e))
 done-by (Halving.TooMany m) n e = absurd (false≢true (ap isDone e))
 done-by (Halving.NoSpace m) n e = absurd (false≢true (ap isDone e))

@@ -1,4 +1,5 @@
--- What demand 3 stands on: there is one result, and what is solved and passes division's checks is within its limits and sizes.
+-- What demand 3 stands on: there is one result, and what is solved and passes division's checks is within its limits
+-- and sizes.
 use Prim.Native.Nat.{ℕ, zero, suc, _+_, _/_, _≤_, _<_}
 use mathlib.Core.Path.{_≡_, refl, sym, ap, _∙_, subst}
 use mathlib.Core.Logic.{_⊎_, inl, inr}

@@ -1,7 +1,7 @@
--- The price list's statement against wrong programs: each that document 01 names for a division, and what `Price`, which both
--- calls promise, says where a program answers so. Either it cannot be, or the answer is right after all.
--- Then two theorems that guard the statement itself: `one-answer`, that it leaves one answer and one content of the outputs, and
--- `demand-3`, in which every field of `Price` and of `Result` stands written out.
+-- The price list's statement against wrong programs: each that document 01 names for a division, and what `Price`,
+-- which both calls promise, says where a program answers so. Either it cannot be, or the answer is right after all.
+-- Then two theorems that guard the statement itself: `one-answer`, that it leaves one answer and one content of the
+-- outputs, and `demand-3`, in which every field of `Price` and of `Result` stands written out.
 use Prim.Native.Nat.{ℕ, suc, _+_, _-_, _*_, _≤_, _<_}
 use native.Mathlib.Omega.{arith}
 use mathlib.Core.Path.{_≡_, refl, sym, ap, _∙_, subst}
@@ -35,10 +35,10 @@ use Rattle.divide.specs.declared.Division.{Division}
 use Rattle.divide.specs.declared.Division.the-variants.{Refused, AtPose, Ended}
 use Rattle.divide.specs.Checking.{divisionCheck}
 use Rattle.divide.specs.Subdividing.{solvedPath}
-use Rattle.divide.specs.Price.{AllClose, Insertions, Result, AllZero, ZeroBehind, Checks, Price, IfSolved, SolvedAndDivided}
+use Rattle.divide.specs.Price.{AllClose, Insertions, Result, AllZero, Checks, Price, IfSolved, SolvedAndDivided}
 use Rattle.divide.proofs.Idle.{less-or-not}
 use Rattle.divide.proofs.PricePath.{divided-one}
-use Rattle.divide.proofs.PriceLent.{isDone, isMany, isFull, countIn}
+use Rattle.divide.proofs.PriceLent.{isDone, countIn}
 
 -- ---- wrong programs
 module _ (k : Kinematics) (tol : Tolerances) (space : ℕ) (g : List Item) (poses joints : List Float) where
@@ -145,7 +145,8 @@ module _ {k : Kinematics} {lent : List Float} {start : Start} {cone : Float} {to
   both-refused-pose p = p .begun l solved passed
 
 -- ---- one answer
--- two answers are one, and so are the outputs: after success the items at their front and the numbers behind these, else all
+-- two answers are one, and so are the outputs: after success the items at their front and the numbers behind these,
+-- else all
 pub record Alike (g : List Item) (answer answer' : Division) (poses joints poses' joints' : List Float) : Type 0 where
   pub answers : answer ≡ answer'
   pub front : (n : ℕ) → answer ≡ Ended (Done n) → itemsIn (length g + n) poses joints ≡ itemsIn (length g + n) poses' joints'

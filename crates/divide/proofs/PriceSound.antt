@@ -1,6 +1,6 @@
--- What holds of given joints, and of the midpoint of two of which it holds: so it holds of all that are inserted. A midpoint lies
--- between its ends, so limits and sizes stay. `Limited` is of solved joints, and of their angles alone; `Sized` is of any joints
--- that pass division's checks, and of all five numbers.
+-- What holds of given joints, and of the midpoint of two of which it holds: so it holds of all that are inserted. A
+-- midpoint lies between its ends, so limits and sizes stay. `Limited` is of solved joints, and of their angles alone;
+-- `Sized` is of any joints that pass division's checks, and of all five numbers.
 use mathlib.Core.Path.{_≡_, refl}
 use mathlib.Core.Bool.{Bool, true, false, _&&_, cond}
 use lib.Dec.{T}

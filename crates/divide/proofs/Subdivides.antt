@@ -1,4 +1,5 @@
--- The two calls that divide: what the checks and the division leave is what the definition says, and demand 3 holds of it.
+-- The two calls that divide: what the checks and the division leave is what the definition says, and demand 3 and R-12
+-- hold of it.
 use Prim.Native.Nat.{ℕ, _*_, _/_, _≤_, _<_}
 use native.Mathlib.Omega.{arith}
 use mathlib.Core.Path.{_≡_, refl, sym, ap, _∙_, subst}
@@ -6,7 +7,7 @@ use mathlib.Core.Logic.{_⊎_, inl, inr}
 use mathlib.Core.List.{List, List·Memᴰ}
 use lib.Dec.{T}
 use lib.Ieee.{Float, binary64, fits, nan}
-use lib.ListN.{length, getD, take, drop, replicate, take-append-drop}
+use lib.ListN.{length, take, drop, take-append-drop}
 use lib.Seq.{length-take-le, getD-take, take-all}
 use Rattle.float.specs.Helpers.{nought}
 use Rattle.lists.specs.Padding.{padded}
@@ -23,6 +24,7 @@ use Rattle.path.specs.declared.Start.{Start}
 use Rattle.lists.specs.Each.{Each}
 use Rattle.path.specs.Solving.{Along, poseFrom, jointNumbers, solvePath}
 use Rattle.path.proofs.Along.{along-long}
+use Rattle.geometry.proofs.FitVectors.{FitVec}
 use Rattle.machine.specs.declared.Divided.{Divided}
 use Rattle.divide.specs.declared.Division.{Division}
 use Rattle.divide.specs.declared.Division.the-variants.{Refused, Ended}
@@ -32,6 +34,7 @@ use Rattle.turn.specs.Items.{jointsFrom, item, itemsIn, spaceIn}
 use Rattle.divide.specs.Checking.{FitUpTo, divisionCheck}
 use Rattle.machine.specs.Dividing.{division, dividedIn, posesOver, jointsOver}
 use Rattle.divide.specs.Subdividing.{divisionIn, posesLeft, jointsLeft, given, divisionWithin, subdividePath, foundIn}
+use Rattle.divide.specs.Looser.{Later}
 use Rattle.divide.specs.Price.{Price, IfSolved}
 use Rattle.turn.proofs.Stored.{joints-codec}
 use Rattle.machine.proofs.Copies.{joints-front}
@@ -40,6 +43,7 @@ use Rattle.divide.proofs.Price.{Answered, priced}
 use Rattle.divide.proofs.PriceSound.{Limited, Sized}
 use Rattle.divide.proofs.PricePath.{paired-given, path-limited, given-sets-sized, given-sized}
 use Rattle.divide.proofs.PriceLent.{begun-price, none-price, refused-price}
+use Rattle.divide.proofs.Later.{refused-later, ended-later}
 
 -- ---- every joint set that was solved is within its limits, and within the sizes that were checked
 taken-fit : (n : ℕ) (l : List Float) → n ≤ length l → FitUpTo n l → FitUpTo (length (take n l)) (take n l)
@@ -91,29 +95,34 @@ module _ (k : Kinematics) (tol : Tolerances) (lent solved p₀ j₀ : List Float
   pub subdivide-refused : {said : Division} {r : Refusal} → divisionCheck k tol lent solved (length p₀) (length j₀) ≡ Checked.Refused r → said ≡ Refused r
       → (said ≡ divisionIn (subdividePath k tol lent solved (length p₀) (length j₀)))
       × ((p₀ ≡ posesLeft (subdividePath k tol lent solved (length p₀) (length j₀)) p₀)
-      × ((j₀ ≡ jointsLeft (subdividePath k tol lent solved (length p₀) (length j₀)) j₀) × IfSolved k tol lent solved (length p₀) (length j₀) said p₀ j₀))
+      × ((j₀ ≡ jointsLeft (subdividePath k tol lent solved (length p₀) (length j₀)) j₀) × (IfSolved k tol lent solved (length p₀) (length j₀) said p₀ j₀ × Later k tol lent solved (length p₀) (length j₀) said p₀ j₀)))
   unfolding subdividePath posesLeft jointsLeft
-  subdivide-refused e s = (rw e s, (rw e, (rw e, record { begun = λ w. absurd (refused-passed (sym e ∙ w)); price = λ start cone room l a i. refused-price s })))
+  subdivide-refused e s =
+      (rw e s, (rw e, (rw e, (record { begun = λ w. absurd (refused-passed (sym e ∙ w)); price = λ start cone room l a i. refused-price s }, refused-later s))))
 
-  pub subdivide-ended : {ended : Divided} {poses joints : List Float} → divisionCheck k tol lent solved (length p₀) (length j₀) ≡ Checked.Passed → FitUpTo (length solved) solved
+  pub subdivide-ended : {ended : Divided} {poses joints : List Float} → divisionCheck k tol lent solved (length p₀) (length j₀) ≡ Checked.Passed → FitUpTo (length solved) solved → FitVec (k .«spindle_axis»)
       → ended ≡ dividedIn (divisionWithin (prepared k) tol (spaceIn (length p₀) (length j₀)) (given lent solved))
       → poses ≡ posesOver (divisionWithin (prepared k) tol (spaceIn (length p₀) (length j₀)) (given lent solved)) p₀
       → joints ≡ jointsOver (divisionWithin (prepared k) tol (spaceIn (length p₀) (length j₀)) (given lent solved)) j₀
       → (Ended ended ≡ divisionIn (subdividePath k tol lent solved (length p₀) (length j₀)))
       × ((poses ≡ posesLeft (subdividePath k tol lent solved (length p₀) (length j₀)) p₀)
-      × ((joints ≡ jointsLeft (subdividePath k tol lent solved (length p₀) (length j₀)) j₀) × IfSolved k tol lent solved (length p₀) (length j₀) (Ended ended) poses joints))
+      × ((joints ≡ jointsLeft (subdividePath k tol lent solved (length p₀) (length j₀)) j₀) × (IfSolved k tol lent solved (length p₀) (length j₀) (Ended ended) poses joints
+      × Later k tol lent solved (length p₀) (length j₀) (Ended ended) poses joints)))
   unfolding subdividePath posesLeft jointsLeft
-  subdivide-ended e f s u v = (
+  subdivide-ended e f spindle s u v = (
     rw e (ap Ended s),
     (
       rw e u,
       (
         rw e v,
-        record {
-          begun = λ w. tt;
-          price = λ start cone room l a i.
-              ended-price k tol lent solved (length p₀) (length j₀) e f start cone room l a i (spaceIn (length p₀) (length j₀)) p₀ j₀ (ap Ended s) u v;
-        },
+        (
+          record {
+            begun = λ w. tt;
+            price = λ start cone room l a i.
+                ended-price k tol lent solved (length p₀) (length j₀) e f start cone room l a i (spaceIn (length p₀) (length j₀)) p₀ j₀ (ap Ended s) u v;
+          },
+          ended-later k tol lent solved p₀ j₀ f spindle e u v (ap Ended s),
+        ),
       ),
     ),
   )
@@ -127,11 +136,17 @@ module _ (k : Kinematics) (tol : Tolerances) (lent p₀ j₀ : List Float) where
       → poses ≡ padded (length p₀) nought (take 0 p₀) → joints ≡ padded (length j₀) nought (take 0 j₀)
       → (said ≡ divisionIn (foundIn k tol lent (length p₀) j₀))
       × ((poses ≡ posesLeft (foundIn k tol lent (length p₀) j₀) p₀)
-      × ((joints ≡ jointsLeft (foundIn k tol lent (length p₀) j₀) j₀) × IfSolved k tol lent found (length p₀) (length j₀) said poses joints))
+      × ((joints ≡ jointsLeft (foundIn k tol lent (length p₀) j₀) j₀) × (IfSolved k tol lent found (length p₀) (length j₀) said poses joints × Later k tol lent found (length p₀) (length j₀) said poses joints)))
   unfolding foundIn subdividePath posesLeft jointsLeft
   found-refused e s u v = (
     rw e s,
-    (rw e (u ∙ padded-nil (length p₀) nought), (rw e (v ∙ padded-nil (length j₀) nought), record { begun = λ w. absurd (refused-passed (sym e ∙ w)); price = λ start cone room l a i. refused-price s })),
+    (
+      rw e (u ∙ padded-nil (length p₀) nought),
+      (
+        rw e (v ∙ padded-nil (length j₀) nought),
+        (record { begun = λ w. absurd (refused-passed (sym e ∙ w)); price = λ start cone room l a i. refused-price s }, refused-later s),
+      ),
+    ),
   )
 
   front-found : length lent / 6 * 5 ≤ length j₀ → given lent j₀ ≡ given lent found
@@ -140,15 +155,16 @@ module _ (k : Kinematics) (tol : Tolerances) (lent p₀ j₀ : List Float) where
       ∙ joints-front (length lent / 6) lent found (drop (length lent / 6 * 5) j₀) (length-take-le (length lent / 6 * 5) j₀ h)
 
   pub found-ended : {ended : Divided} {poses joints : List Float} → length lent / 6 * 5 ≤ length j₀ → divisionCheck k tol lent found (length p₀) (length j₀) ≡ Checked.Passed
-      → FitUpTo (length lent / 6 * 5) j₀
+      → FitUpTo (length lent / 6 * 5) j₀ → FitVec (k .«spindle_axis»)
       → ended ≡ dividedIn (divisionWithin (prepared k) tol (spaceIn (length p₀) (length j₀)) (given lent j₀))
       → poses ≡ posesOver (divisionWithin (prepared k) tol (spaceIn (length p₀) (length j₀)) (given lent j₀)) p₀
       → joints ≡ jointsOver (divisionWithin (prepared k) tol (spaceIn (length p₀) (length j₀)) (given lent j₀)) j₀
       → (Ended ended ≡ divisionIn (foundIn k tol lent (length p₀) j₀))
       × ((poses ≡ posesLeft (foundIn k tol lent (length p₀) j₀) p₀)
-      × ((joints ≡ jointsLeft (foundIn k tol lent (length p₀) j₀) j₀) × IfSolved k tol lent found (length p₀) (length j₀) (Ended ended) poses joints))
+      × ((joints ≡ jointsLeft (foundIn k tol lent (length p₀) j₀) j₀) × (IfSolved k tol lent found (length p₀) (length j₀) (Ended ended) poses joints
+      × Later k tol lent found (length p₀) (length j₀) (Ended ended) poses joints)))
   unfolding foundIn subdividePath posesLeft jointsLeft
-  found-ended h e f s u v =
+  found-ended h e f spindle s u v =
       let g = front-found h in
       let s' = rw g at s in
       let u' = rw g at u in
@@ -158,11 +174,14 @@ module _ (k : Kinematics) (tol : Tolerances) (lent p₀ j₀ : List Float) where
           rw e u',
           (
             rw e v',
-            record {
-              begun = λ w. tt;
-              price = λ start cone room l a i.
-                  ended-price k tol lent found (length p₀) (length j₀) e (taken-fit (length lent / 6 * 5) j₀ h f) start cone room l a i (spaceIn (length p₀) (length j₀)) p₀ j₀ (ap Ended s') u' v';
-            },
+            (
+              record {
+                begun = λ w. tt;
+                price = λ start cone room l a i.
+                    ended-price k tol lent found (length p₀) (length j₀) e (taken-fit (length lent / 6 * 5) j₀ h f) start cone room l a i (spaceIn (length p₀) (length j₀)) p₀ j₀ (ap Ended s') u' v';
+              },
+              ended-later k tol lent found p₀ j₀ (taken-fit (length lent / 6 * 5) j₀ h f) spindle e u' v' (ap Ended s'),
+            ),
           ),
         ),
       )

@@ -1,5 +1,6 @@
--- A path for which the price list's statement speaks of something: the job `tiny` of examples/jobs, two poses on a table C that is
--- far from its pivot. By computing the definitions: its joints are solved, and dividing it inserts one pose.
+-- A path for which the price list's statement speaks of something: the job `tiny` of examples/jobs, two poses on a
+-- table C that is far from its pivot. By computing the definitions: its joints are solved, and dividing it inserts one
+-- pose.
 use mathlib.Core.Path.{_≡_, refl}
 use mathlib.Core.List.{List, [], _∷_}
 use lib.Ieee as Ieee
@@ -78,8 +79,8 @@ pub solved : solvePath chain poses AtZero one 10 ≡ Along (at nought ∷ at apa
 unfolding solvePath solveChecked solveCheck wholeRecords coneGood pathChain parallel pathSizes posesIn rows solvePoses poseAnswer solvedPose solvedTip solveOne setUp boundsOf turnedWithin singularFrame chainCheck secondCheck rotaryCheck oneOrTwo knownLetter otherLetter travelGood hasDirection within allWithin pivotsWithin noRotary prepared secondSpin spinOf unitAxis unitOr unitDirection allFinite tiny withLength exactPose ofRaw ofPositions secondCandidate reachedBy alone unwound withinLimits inside firstInside secondInside unwindAngles unwindAngle byTurns roundHalfAway orientationAngles oneJointAngles sp1 betweenParts turnedBy squarePart misses poseAt jointsAt position forwardCore reach reachAxis tablePoint tableVector headPoint headVector turnsOf tablesForth turnOf rotateVector rotatePoint degreePair turnable sineDegrees cosineDegrees norm dot cross scale add sub root sizeOf Ieee.add Ieee.sub Ieee.mul Ieee.div Ieee.neg Ieee.lt Ieee.le Ieee.eq Ieee.sum Ieee.round ofBits
 solved = refl
 
--- ---- and divided, with a chord tolerance of 1e-13 mm, an axis tolerance of 1 degree and just the space: the midpoint of the two
--- is inserted, and its own midpoints are too near to be
+-- ---- and divided, with a chord tolerance of 1e-13 mm, an axis tolerance of 1 degree and just the space: the midpoint
+-- of the two is inserted, and its own midpoints are too near to be
 abbrev tolerances : Tolerances
 tolerances = record { chord = ofBits binary64 0x3d3c_25c2_6849_7682; axis = one }
 

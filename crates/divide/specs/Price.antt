@@ -34,6 +34,7 @@ use Rattle.turn.specs.Items.{itemsIn, spaceIn}
 use Rattle.middle.specs.Testing.{least, midpoint, segmentWithin, divides}
 use Rattle.divide.specs.Checking.{divisionCheck}
 use Rattle.divide.specs.Subdividing.{given, solvedPath}
+use Rattle.divide.specs.Looser.{Later}
 
 -- ---- at most 1e-12 apart: one number, and all five
 abbrev pub Close : Float → Float → Type 0
@@ -76,9 +77,11 @@ pub record Result (k : Kinematics) (p : Prepared) (tol : Tolerances) (g : List I
   -- "where two neighbours fail it, their midpoint differs from one of them by at most 1e-12 in all five numbers"
   pub close : (front : List Item) (x y : Item) (back : List Item) → r ≡ front ++ x ∷ y ∷ back → segmentWithin p tol x y ≡ false
       → AllClose (midpoint p x y .joints) (x .joints) ⊎ AllClose (midpoint p x y .joints) (y .joints)
-  -- "The reported count is the number inserted": what is inserted is n poses, by `inserted`, and they make the result so long
+  -- "The reported count is the number inserted": what is inserted is n poses, by `inserted`, and they make the result
+  -- so long
   pub counted : length r ≡ length g + n
-  -- so no cable number is refused, and no later call: positions within 10,000,000 mm and angles within 36,000 degrees, all finite
+  -- so no cable number is refused, and no later call: positions within 10,000,000 mm and angles within 36,000 degrees,
+  -- all finite
   pub sizes : (i : Item) → List·Memᴰ i r → jointsWithin (i .joints) ≡ true
 
 -- ---- +0.0 in the whole of both outputs, and behind so many poses
@@ -140,3 +143,6 @@ pub record SolvedAndDivided (k : Kinematics) (lent : List Float) (start : Start)
   -- "For every path solved and then divided for one chain, whatever the start, cone, tolerances and space"
   pub price : (l : List Joints) → solvedPath k lent start cone (length poses₀) (length joints₀) ≡ Along l
       → Price k tol (spaceIn (length poses₀) (length joints₀)) (given lent (flat jointNumbers l)) answer poses joints
+  -- and what R-12 says of looser tolerances and of a second division
+  pub later : (l : List Joints) → solvedPath k lent start cone (length poses₀) (length joints₀) ≡ Along l
+      → Later k tol lent (flat jointNumbers l) (length poses₀) (length joints₀) answer poses joints

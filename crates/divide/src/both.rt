@@ -3,6 +3,7 @@ ghost use Prim.Native.Nat.{ℕ, _*_, _/_, _≤_};
 ghost use mathlib.Core.Path.{_≡_};
 ghost use lib.ListN.{length, take};
 ghost use Rattle.divide.specs.Subdividing as S;
+ghost use Rattle.divide.specs.Looser.{Later};
 ghost use Rattle.divide.specs.Price.{IfSolved, SolvedAndDivided};
 use crate::Division;
 use crate::checking::division_check;
@@ -57,6 +58,7 @@ fn divide_found(
     ensures poses { λ r. ⌜ now (poses .exit) ≡ S.posesLeft (S.foundIn k tol (now (given .entry)) (length (now (poses .entry))) (now (joints .entry))) (now (poses .entry)) ⌝ }
     ensures joints { λ r. ⌜ now (joints .exit) ≡ S.jointsLeft (S.foundIn k tol (now (given .entry)) (length (now (poses .entry))) (now (joints .entry))) (now (joints .entry)) ⌝ }
     ensures price { λ r. ⌜ IfSolved k tol (now (given .entry)) (take (length (now (given .entry)) / 6 * 5) (now (joints .entry))) (length (now (poses .entry))) (length (now (joints .entry))) r (now (poses .exit)) (now (joints .exit)) ⌝ }
+    ensures later { λ r. ⌜ Later k tol (now (given .entry)) (take (length (now (given .entry)) / 6 * 5) (now (joints .entry))) (length (now (poses .entry))) (length (now (joints .entry))) r (now (poses .exit)) (now (joints .exit)) ⌝ }
 {
     let numbers = given.len() / 6 * 5;
     let checked = division_check(k, tol, given, joints, numbers, poses.len(), joints.len());

@@ -5,6 +5,7 @@ ghost use lib.ListN.{length};
 ghost use Rattle.chain.specs.Prepared.{prepared};
 ghost use Rattle.machine.specs.Dividing.{dividedIn, posesOver, jointsOver};
 ghost use Rattle.divide.specs.Subdividing as S;
+ghost use Rattle.divide.specs.Looser.{Later};
 ghost use Rattle.divide.specs.Price.{IfSolved};
 use crate::Division;
 use crate::checking::division_check;
@@ -103,6 +104,7 @@ pub fn subdivide_path(
     ensures poses { λ r. ⌜ now (poses .exit) ≡ S.posesLeft (S.subdividePath k tol (now (given .entry)) (now (solved .entry)) (length (now (poses .entry))) (length (now (joints .entry)))) (now (poses .entry)) ⌝ }
     ensures joints { λ r. ⌜ now (joints .exit) ≡ S.jointsLeft (S.subdividePath k tol (now (given .entry)) (now (solved .entry)) (length (now (poses .entry))) (length (now (joints .entry)))) (now (joints .entry)) ⌝ }
     ensures price { λ r. ⌜ IfSolved k tol (now (given .entry)) (now (solved .entry)) (length (now (poses .entry))) (length (now (joints .entry))) r (now (poses .exit)) (now (joints .exit)) ⌝ }
+    ensures later { λ r. ⌜ Later k tol (now (given .entry)) (now (solved .entry)) (length (now (poses .entry))) (length (now (joints .entry))) r (now (poses .exit)) (now (joints .exit)) ⌝ }
 {
     let checked = division_check(
         k,

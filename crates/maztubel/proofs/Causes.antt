@@ -1,6 +1,6 @@
--- What the number that a division returns says of its answer: 0 that the path is divided, 27 that it needs a 10,001st pose, and
--- nothing else. For no check and no pose is refused with either of these two numbers: one lemma for each list of checks and for
--- each definition of a pose's answer.
+-- What the number that a division returns says of its answer: 0 that the path is divided, 27 that it needs a 10,001st
+-- pose, and nothing else. For no check and no pose is refused with either of these two numbers: one lemma for each list
+-- of checks and for each definition of a pose's answer.
 use Prim.Native.Nat.{ℕ, zero, suc, _+_, _*_, _/_}
 use mathlib.Core.Path.{_≡_, refl, sym, ap, _∙_, subst}
 use mathlib.Core.Bool.{Bool, true, false, not, cond, _&&_, false≢true}

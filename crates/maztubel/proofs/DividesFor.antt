@@ -16,9 +16,11 @@ use Rattle.divide.specs.declared.Division.the-variants.{Refused}
 use Rattle.middle.specs.declared.Tolerances.{Tolerances}
 use Rattle.divide.specs.Checking.{fourWhole}
 use Rattle.divide.specs.Subdividing.{DivisionAnswer, divisionIn, posesLeft, jointsLeft, subdividePath, solveAndDivide}
+use Rattle.divide.specs.Looser.{Later}
 use Rattle.divide.specs.Price.{IfSolved, SolvedAndDivided}
 use Rattle.divide.proofs.Lengths.{all-pass}
 use Rattle.divide.proofs.PriceLent.{refused-price}
+use Rattle.divide.proofs.Later.{refused-later}
 use Rattle.maztubel.specs.PathEntries.{startIn}
 use Rattle.maztubel.specs.DivideEntries.{lengthsRefused, subdivideOf, SubdividePromise, bothLengths, bothOf, BothPromise}
 
@@ -27,10 +29,13 @@ use Rattle.maztubel.specs.DivideEntries.{lengthsRefused, subdivideOf, Su
 refused-promise : (read : ChainRead) (tol : Tolerances) (lent solved : List Float) (a b : ℕ) (poses joints : List Float) {answer : Division} {r : Refusal}
     → fourWhole (length lent) (length solved) a b ≡ false → answer ≡ Refused r → SubdividePromise read tol lent solved a b answer poses joints
 refused-promise (ChainRead.Refused s) tol lent solved a b poses joints w e = tt
-refused-promise (ChainRead.Chain k) tol lent solved a b poses joints w e = record {
-  begun = λ c. absurd (false≢true (sym w ∙ all-pass k tol lent solved a b c .whole-is));
-  price = λ start cone room l h i. refused-price e;
-}
+refused-promise (ChainRead.Chain k) tol lent solved a b poses joints w e = (
+  record {
+    begun = λ c. absurd (false≢true (sym w ∙ all-pass k tol lent solved a b c .whole-is));
+    price = λ start cone room l h i. refused-price e;
+  },
+  refused-later e,
+)
 
 module _ (chain : List ℕ) (tol : Tolerances) (lent solved p₀ j₀ : List Float) where
   abbrev whole : DivisionAnswer
@@ -41,6 +46,9 @@ module _ (chain : List ℕ) (tol : Tolerances) (lent solved p₀ j₀ : List Flo
       (said ≡ divisionIn whole)
       × ((poses ≡ posesLeft whole p₀)
       × ((joints ≡ jointsLeft whole j₀) × SubdividePromise (readChain 72 chain) tol lent solved (length p₀) (length j₀) (divisionIn whole) poses joints))
+
+  abbrev Both : Kinematics → Division → List Float → List Float → Type 0
+  Both k said poses joints = IfSolved k tol lent solved (length p₀) (length j₀) said poses joints × Later k tol lent solved (length p₀) (length j₀) said poses joints
 
   pub subdivide-lengths : {said : Division} → not (fourWhole (length lent) (length solved) (length p₀) (length j₀)) ≡ true → said ≡ lengthsRefused → So said p₀ j₀
   unfolding subdivideOf posesLeft jointsLeft
@@ -56,12 +64,12 @@ module _ (chain : List ℕ) (tol : Tolerances) (lent solved p₀ j₀ : List Flo
       → readChain 72 chain ≡ ChainRead.Chain k
       → (said ≡ divisionIn (subdividePath k tol lent solved (length p₀) (length j₀)))
       × ((poses ≡ posesLeft (subdividePath k tol lent solved (length p₀) (length j₀)) p₀)
-      × ((joints ≡ jointsLeft (subdividePath k tol lent solved (length p₀) (length j₀)) j₀) × IfSolved k tol lent solved (length p₀) (length j₀) said poses joints))
+      × ((joints ≡ jointsLeft (subdividePath k tol lent solved (length p₀) (length j₀)) j₀) × Both k said poses joints))
       → So said poses joints
   unfolding subdivideOf
   subdivide-chain {k} {said} {poses} {joints} e f h = (
     rw (e, f) (h .0),
-    (rw (e, f) (h .1 .0), (rw (e, f) (h .1 .1 .0), rw (e, f) (subst (λ (z : Division). IfSolved k tol lent solved (length p₀) (length j₀) z poses joints) (h .0) (h .1 .1 .1)))),
+    (rw (e, f) (h .1 .0), (rw (e, f) (h .1 .1 .0), rw (e, f) (subst (λ (z : Division). Both k z poses joints) (h .0) (h .1 .1 .1)))),
   )
 
 -- ---- the call of both

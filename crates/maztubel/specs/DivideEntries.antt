@@ -18,6 +18,7 @@ use Rattle.divide.specs.declared.Division.the-variants.{Refused, AtPose, Ended}
 use Rattle.middle.specs.declared.Tolerances.{Tolerances}
 use Rattle.divide.specs.Checking.{fourWhole}
 use Rattle.divide.specs.Subdividing.{DivisionAnswer, Kept, divisionIn, subdividePath, threeWhole, solveAndDivide}
+use Rattle.divide.specs.Looser.{Later}
 use Rattle.divide.specs.Price.{IfSolved, SolvedAndDivided}
 use Rattle.maztubel.specs.PathEntries.{startGood, startIn}
 
@@ -73,10 +74,12 @@ subdivideOf chain tol poses joints roomPoses roomJoints =
     cond (not (fourWhole (length poses) (length joints) roomPoses roomJoints)) (Kept (refusal lengthsDiffer 0))
     (subdivideRead (readChain 72 chain) tol poses joints roomPoses roomJoints)
 
--- demand 3, of joints that `solve_path` gives for this chain and these poses
+-- demand 3, of joints that `solve_path` gives for this chain and these poses; and what R-12 says of looser tolerances
+-- and of a second division, of any joints
 abbrev pub SubdividePromise : ChainRead → Tolerances → (lent solved : List Float) → (roomPoses roomJoints : ℕ) → Division → (poses joints : List Float) → Type 0
 SubdividePromise (ChainRead.Refused r) tol lent solved roomPoses roomJoints answer poses joints = Unit {0}
-SubdividePromise (ChainRead.Chain k) tol lent solved roomPoses roomJoints answer poses joints = IfSolved k tol lent solved roomPoses roomJoints answer poses joints
+SubdividePromise (ChainRead.Chain k) tol lent solved roomPoses roomJoints answer poses joints =
+    IfSolved k tol lent solved roomPoses roomJoints answer poses joints × Later k tol lent solved roomPoses roomJoints answer poses joints
 
 -- ---- the call of both
 unfoldable pub bothLengths : (poses start roomPoses roomJoints : ℕ) → Bool
@@ -91,7 +94,7 @@ bothOf chain poses start cone tol roomPoses roomJoints =
     cond (not (bothLengths (length poses) (length start) roomPoses roomJoints)) (Kept (refusal lengthsDiffer 0))
     (bothRead (readChain 72 chain) poses (startIn start) cone tol roomPoses roomJoints)
 
--- demand 3, and on every refusal what the outputs hold; of lengths that are refused `bothOf` says it
+-- demand 3 and R-12, and on every refusal what the outputs hold; of lengths that are refused `bothOf` says it
 abbrev pub BothPromise : Bool → ChainRead → List Float → Start → Float → Tolerances → Division → (poses₀ joints₀ poses joints : List Float) → Type 0
 BothPromise false read lent start cone tol answer poses₀ joints₀ poses joints = Unit {0}
 BothPromise true (ChainRead.Refused r) lent start cone tol answer poses₀ joints₀ poses joints = Unit {0}

@@ -1,6 +1,6 @@
--- A path that division served is never refused: every joint set of it is within the sizes that the cable number asks for, so both
--- cable numbers are answered, and the path is written.
-use Prim.Native.Nat.{ℕ, _+_, _*_, _/_, _%_}
+-- A path that division served is never refused: every joint set of it is within the sizes that the cable number asks
+-- for, so both cable numbers are answered, and the path is written.
+use Prim.Native.Nat.{ℕ, _+_, _/_, _%_}
 use native.Mathlib.Omega.{arith}
 use mathlib.Core.Path.{_≡_, refl, sym, ap, _∙_, subst}
 use mathlib.Core.Bool.{Bool, true, false, _&&_, false≢true}
@@ -8,7 +8,6 @@ use mathlib.Core.List.{List, [], _∷_, map, List·Memᴰ, List·Memᴰ·head, L
 use lib.Dec.{leb}
 use lib.Ieee.{Float}
 use lib.ListN.{length}
-use Rattle.float.specs.Helpers.{nought}
 use Rattle.lists.specs.Rows.{flat}
 use Rattle.lists.specs.Search.{all}
 use Rattle.lists.proofs.Rows.{length-flat}

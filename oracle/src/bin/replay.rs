@@ -48,6 +48,9 @@ mod sample {
     const OF_EACH: usize = 5;
     const OF_LONG: usize = 2;
 
+    /// So many divisions are followed by a looser one and by a second one of their result.
+    const OF_LATER: usize = 12;
+
     /// How many bytes a case has with its line, mostly; and at most.
     const USUAL: usize = 1000;
     const MOST: usize = 8000;
@@ -231,6 +234,12 @@ mod sample {
                 let case = replayed_calls::of_too_many(entry.name).expect("a short case");
                 assert_eq!(case.number, 27);
                 cases.push(case);
+            }
+            if entry.name == "subdivide_path" {
+                cases.extend(replayed_calls::of_later(
+                    OF_LATER,
+                    &mut Random::new(seed as u64),
+                ));
             }
             tell(entry.name, &cases);
             all.append(&mut cases);

@@ -63,7 +63,7 @@ same-length-4 : tie.Need-same-length-4
 same-length-4 c = search needs
 
 returns-3 : tie.Need-returns-3
-returns-3 c = let a = c .before .before .before .before .before .before .before .before .before .before .before .before .before .before .before .before .before .before .before .args in let e = c .before .before .before .before .divide-found .ensures in both-divided (a .k) (a .given .now) (a .start) (a .cone) (a .tol) (a .poses .now) (a .joints .now) (sym (c .before .before .before .before .before .before .before .before .before .before .before .before .before .before .before .both-check .ensures) ∙ c .before .before .before .before .before .before .before .before .before .before .before .before .before .enum-told .given .1) (sym (c .before .before .before .before .before .before .before .before .before .before .before .solve-checked .ensures .0) ∙ c .before .before .before .before .before .before .before .enum-told2 .given .1) (c .before .before .before .before .before .before .before .before .before .before .before .solve-checked .ensures .1) (c .before .before .before .before .before .before .before .before .before .before .before .solve-checked .kept .1 .1 .1 .1 .0) (e .0) (e .1 .0) (e .1 .1 .0) (e .1 .1 .1)
+returns-3 c = let a = c .before .before .before .before .before .before .before .before .before .before .before .before .before .before .before .before .before .before .before .args in let e = c .before .before .before .before .divide-found .ensures in both-divided (a .k) (a .given .now) (a .start) (a .cone) (a .tol) (a .poses .now) (a .joints .now) (sym (c .before .before .before .before .before .before .before .before .before .before .before .before .before .before .before .both-check .ensures) ∙ c .before .before .before .before .before .before .before .before .before .before .before .before .before .enum-told .given .1) (sym (c .before .before .before .before .before .before .before .before .before .before .before .solve-checked .ensures .0) ∙ c .before .before .before .before .before .before .before .enum-told2 .given .1) (c .before .before .before .before .before .before .before .before .before .before .before .solve-checked .ensures .1) (c .before .before .before .before .before .before .before .before .before .before .before .solve-checked .kept .1 .1 .1 .1 .0) (e .0) (e .1 .0) (e .1 .1 .0) (e .1 .1 .1 .0) (e .1 .1 .1 .1)
 
 pub solve-and-divide-spec : {M : Type 1} → statement M
 solve-and-divide-spec = tie.close (tie.spec both-check-requires enum-known-checked returns enum-told solve-checked-requires enum-known-solved clear-from-requires same-length same-length-2 returns-2 enum-told-2 divide-found-requires same-length-3 same-length-4 returns-3)

@@ -1,0 +1,3 @@
+pub mod LooserTest
+pub mod UnitFinite
+pub mod Reached
