@@ -88,10 +88,11 @@ enum {
     MAZTUBEL_TOOL_LENGTH = 14,
     /* the tool axis must have a direction (finite, a component above 1e-15 in size, a length that does not overflow) */
     MAZTUBEL_TOOL_AXIS_ZERO = 15,
-    /* joints, start, hint and tips must be finite, in a division tool axes too */
+    /* joints, start, hint and tips must be finite, in a division and in a job that is written tool axes too */
     MAZTUBEL_NOT_FINITE = 16,
     /* sizes must be at most 100,000 mm (tip, pivot, tool length), 10,000,000 mm (joint position), 36,000 degrees
-     * (angle, hint), 100,000 poses, 800 radians (sine, cosine), 1 (arccosine), and finite (arctangent) */
+     * (angle, hint), 100,000 poses, 65,536 bytes (a job that is written), 800 radians (sine, cosine), 1 (arccosine),
+     * and finite (arctangent) */
     MAZTUBEL_TOO_LARGE = 17,
     /* the cone must be finite, above 0 and at most 10 degrees */
     MAZTUBEL_CONE = 18,
@@ -114,7 +115,7 @@ enum {
     MAZTUBEL_ANGLE_TOO_LARGE = 26,
     /* a division must insert at most 10,000 poses */
     MAZTUBEL_TOO_MANY_INSERTIONS = 27,
-    /* the outputs must have space for every pose */
+    /* the outputs must have space for every pose, and for the job that is written */
     MAZTUBEL_NO_SPACE = 28,
     /* the bytes of a chain, a job or a model must have the form of docs/FORMAT.md */
     MAZTUBEL_MALFORMED = 29,
@@ -463,6 +464,35 @@ uint32_t maztubel_read_job(const uint8_t *job, size_t job_length, uint64_t *chai
  *       the refusals of maztubel_read_job
  *   28  there is no space for the poses; *at is 0 */
 uint32_t maztubel_job_poses(const uint8_t *job, size_t job_length, double *poses, size_t poses_length, uint64_t *at);
+
+/* Writes a job: the chain, the poses and the trailer, in this order and with nothing between them.
+ *
+ *   chain   the chain, as above
+ *   poses   6 doubles each as on a path: the tip in mm and the tool axis, which may have any length, also zero. At most
+ *           1,362 poses with one rotary and 1,360 with two
+ *   cone    in degrees
+ *   chord   the chord tolerance in mm
+ *   axis    the axis tolerance in degrees
+ *   job     output: the job at its front, 104 or 176 bytes for the chain, 48 for each pose and 40 for the trailer.
+ *           Bytes behind the job stay. The offset of the poses is the chain's end, also where there are none
+ *   length  output of every call: how many bytes the job has, 0 with a refusal
+ *
+ * maztubel_read_job and maztubel_job_poses give for these bytes what was passed here, bit for bit. What they give for
+ * them, passed here again, is written to the same bytes.
+ *
+ * Refusals, all of which keep every byte of job:
+ *   20      the length of poses is no multiple of 6
+ *   29      the chain's bytes
+ *   3 to 9  the chain
+ *   18      the cone
+ *   19      the chord tolerance, then the axis tolerance
+ *   16      a number of a pose is not finite
+ *   17      a pivot or a tip is above 100,000 mm in size, or the job has more than 65,536 bytes
+ *   28      there is no space for the job
+ * Two parallel rotaries are written: 30 is for the calls on paths. */
+uint32_t maztubel_write_job(const uint8_t *chain, size_t chain_length, const double *poses, size_t poses_length,
+                            double cone, double chord, double axis, uint8_t *job, size_t job_length, uint64_t *length,
+                            uint64_t *at, uint8_t *letter);
 
 /* Writes the cable number of a rotary on a path: the largest whole k with 360 * k at most the size of some angle of
  * that rotary, in degrees. It is 0 on an empty path and for a rotary that the chain does not have.

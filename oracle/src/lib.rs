@@ -92,4 +92,8 @@ pub mod waves;
 #[cfg(original)]
 pub mod ways;
 #[cfg(original)]
+pub mod write_tally;
+#[cfg(original)]
+pub mod writes;
+#[cfg(original)]
 pub mod zigzags;

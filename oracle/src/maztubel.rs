@@ -338,6 +338,40 @@ pub fn job_poses(job: &[u8], poses: &mut [f64], at: &mut u64) -> u32 {
     unsafe { maztubel_job_poses(job.as_ptr(), job.len(), poses.as_mut_ptr(), poses.len(), at) }
 }
 
+/// What a job is written from; the numbers are the cone and the two tolerances.
+#[derive(Clone, Copy)]
+pub struct Parts<'a> {
+    pub chain: &'a [u8],
+    pub poses: &'a [f64],
+    pub numbers: [f64; 3],
+}
+
+pub fn write_job(
+    parts: Parts,
+    job: &mut [u8],
+    length: &mut u64,
+    at: &mut u64,
+    letter: &mut u8,
+) -> u32 {
+    let [cone, chord, axis] = parts.numbers;
+    unsafe {
+        maztubel_write_job(
+            parts.chain.as_ptr(),
+            parts.chain.len(),
+            parts.poses.as_ptr(),
+            parts.poses.len(),
+            cone,
+            chord,
+            axis,
+            job.as_mut_ptr(),
+            job.len(),
+            length,
+            at,
+            letter,
+        )
+    }
+}
+
 pub fn cable_number(
     chain: &[u8],
     joints: &[f64],

@@ -1,5 +1,6 @@
-//! Cases of the job's reader, of its poses and of the cable number. What the bytes say is told by the reader of tools/job; document
-//! 01 has the rest: the space for poses, and the cable number, which the Rust has not.
+//! Cases of the job's reader, of its poses, of its writer and of the cable number. What the bytes say is told by the
+//! reader of tools/job, and a job that is written is packed by `writes`; document 01 has the rest: the space for poses,
+//! and the cable number, which the Rust has not.
 
 use crate::angles::{moved, signed};
 use crate::chains::{self, chain_bytes};
@@ -13,12 +14,16 @@ use crate::reference::{
 };
 use crate::replayed::{FILLED, FILLED_COUNT, Given, Line, Replayed};
 use crate::rust::ported;
+use crate::writes::{self, Case};
 use std::fs;
 use std::path::Path;
 
 const POSE: usize = 6;
 const JOINTS: usize = 5;
 const NO_SPACE: u32 = 28;
+
+/// The program lends at most so many bytes for a job.
+const MOST_ROOM: usize = 1024;
 
 /// Every job of examples/jobs, in the order of their names.
 pub fn examples() -> Vec<Vec<u8>> {
@@ -148,6 +153,34 @@ pub fn of_poses(bytes: &[u8], random: &mut Random) -> Option<Replayed> {
     let given = Given {
         bytes,
         rooms: [room, 0],
+        ..Given::default()
+    };
+    Replayed::new(line, &given)
+}
+
+/// A job that is written, sound or with faults, in a room that the program has.
+pub fn of_write(random: &mut Random) -> Option<Replayed> {
+    let case = match random.below(2) {
+        0 => Case::sound(random),
+        _ => Case::faulty(random),
+    };
+    if case.room > MOST_ROOM {
+        return None;
+    }
+    let (answer, length, mut bytes) = match writes::expected(&case) {
+        Ok(job) => (Refusal { number: 0, at: 0 }, job.len(), job),
+        Err(refusal) => (refusal, 0, vec![]),
+    };
+    bytes.resize(case.room, FILLED_COUNT as u8);
+    let words = bytes.chunks_exact(8);
+    let words = words.map(|eight| f64::from_le_bytes(eight.try_into().expect("8 bytes")));
+    let words: Vec<f64> = words.collect();
+    let line = Line::new("write_job", answer.number, answer.at, 0);
+    let line = line.count(length as u64).numbers(&words);
+    let given = Given {
+        which: case.room as u16,
+        bytes: &case.chain,
+        numbers: [&case.poses, &[], &case.numbers],
         ..Given::default()
     };
     Replayed::new(line, &given)

@@ -11,6 +11,7 @@ use crate::random::Random;
 use crate::tally::Tally as Chains;
 use crate::wave_tally::Waves;
 use crate::ways::Ways;
+use crate::write_tally::WriteTally;
 use std::process::ExitCode;
 use std::sync::LazyLock;
 use std::time::Duration;
@@ -24,12 +25,13 @@ pub struct Soak {
     paths: Ways,
     divisions: Insertions,
     jobs: JobTally,
+    writes: WriteTally,
 }
 
 type Part = fn(&mut Soak, &mut Random);
 
-/// Of the twenty parts six divide, half of the time each of the two entries, and three solve paths: their calls take longest.
-const ROUND: [Part; 20] = [
+/// Of the parts six divide, half of the time each of the two entries, and three solve paths: their calls take longest.
+const ROUND: [Part; 21] = [
     Soak::waves,
     Soak::chains,
     Soak::inverses,
@@ -50,6 +52,7 @@ const ROUND: [Part; 20] = [
     Soak::waves,
     Soak::divisions,
     Soak::jobs,
+    Soak::writes,
 ];
 
 /// One round in so many, the second of them first, has the cases that take longer.
@@ -69,6 +72,7 @@ impl Outcome for Soak {
         self.paths.add(more.paths);
         self.divisions.add(more.divisions);
         self.jobs.add(more.jobs);
+        self.writes.add(more.writes);
     }
 }
 
@@ -113,6 +117,10 @@ impl Soak {
         self.jobs.compare_posted(60, random);
     }
 
+    fn writes(&mut self, random: &mut Random) {
+        self.writes.compare_drawn(4_000, random);
+    }
+
     fn long_paths(&mut self, random: &mut Random) {
         self.paths.compare_long(random);
     }
@@ -129,7 +137,7 @@ impl Soak {
         self.jobs.compare_each_change(random);
     }
 
-    fn families(&self) -> [&dyn Account; 6] {
+    fn families(&self) -> [&dyn Account; 7] {
         let Soak {
             waves,
             chains,
@@ -137,8 +145,9 @@ impl Soak {
             paths,
             divisions,
             jobs,
+            writes,
         } = self;
-        [waves, chains, inverses, paths, divisions, jobs]
+        [waves, chains, inverses, paths, divisions, jobs, writes]
     }
 
     fn calls(&self) -> Vec<(&'static str, u64)> {

@@ -19,7 +19,8 @@ pub struct Told {
     pub at: u64,
     /// With 24 the rotary's letter, else 0.
     pub letter: u8,
-    /// How many joint sets `inverse` has, or how many poses were inserted; of the other calls 0.
+    /// How many joint sets `inverse` has, how many poses were inserted, or how many bytes `write_job` wrote; of the
+    /// other calls 0.
     pub count: u64,
 }
 
@@ -580,6 +581,44 @@ pub fn job_poses(job: &[u8], poses: &mut [f64]) -> Told {
             poses.as_mut_ptr(),
             poses.len(),
             &mut told.at,
+        )
+    };
+    told
+}
+
+/// A job written to the front of what is lent: the chain, the poses, 6 numbers each, and the trailer with the cone and
+/// the two tolerances. How many bytes it has is the count. A refusal keeps what is lent, and has the count 0.
+///
+/// ```
+/// use maztubel::flat;
+/// let mut job = [9; 200];
+/// assert_eq!(flat::write_job(&[0], &[0.0; 7], 1.0, 0.5, 0.5, &mut job).number, 20);
+/// assert_eq!(flat::write_job(&[0], &[0.0; 6], 0.0, 0.5, 0.5, &mut job).number, 3);
+/// assert_eq!(job, [9; 200]);
+/// ```
+pub fn write_job(
+    chain: &[u8],
+    poses: &[f64],
+    cone: f64,
+    chord: f64,
+    axis: f64,
+    job: &mut [u8],
+) -> Told {
+    let mut told = Told::default();
+    told.number = unsafe {
+        maztubel_write_job(
+            chain.as_ptr(),
+            chain.len(),
+            poses.as_ptr(),
+            poses.len(),
+            cone,
+            chord,
+            axis,
+            job.as_mut_ptr(),
+            job.len(),
+            &mut told.count,
+            &mut told.at,
+            &mut told.letter,
         )
     };
     told

@@ -1,4 +1,4 @@
-//! Jobs from their bytes, and the cable number of a path.
+//! Jobs from their bytes and to them, and the cable number of a path.
 
 use crate::chain::Chain;
 use crate::flat::{self, JobParts};
@@ -6,7 +6,8 @@ use crate::path::Tolerances;
 use crate::pose::{Joints, Pose};
 use crate::refusal::Refusal;
 
-/// What the bytes of a job say (docs/FORMAT.md). The calls judge it: a chain or a number that none serves is read.
+/// What the bytes of a job say (docs/FORMAT.md). The calls judge it: a chain or a number that none serves is read, but
+/// not written.
 #[derive(Clone, Debug, PartialEq)]
 pub struct Job {
     /// The chain.
@@ -20,6 +21,9 @@ pub struct Job {
 }
 
 impl Job {
+    /// A job has at most so many bytes.
+    pub const MOST_BYTES: usize = 65_536;
+
     /// The job that has these bytes. Refused are malformed bytes, with the offset of the first bad field, a count of rotaries other
     /// than 1 and 2, and a letter other than A, B and C, with the rotary.
     ///
@@ -53,7 +57,57 @@ impl Job {
             },
         })
     }
+
+    /// The bytes of the job: chain, poses and trailer with nothing between them. [`Job::read`] of them gives the job
+    /// again, bit for bit, and a file that was written so is written again to the same bytes. Refused are, in this
+    /// order, a chain that cannot be served, the cone, a tolerance, a number of a pose that is not finite, and a size:
+    /// of a pivot, of a tip, or a job of more than [`Job::MOST_BYTES`].
+    ///
+    /// ```
+    /// use maztubel::Job;
+    ///
+    /// let file = std::fs::read("../../examples/jobs/example.job").unwrap();
+    /// let mut job = Job::read(&file)?;
+    /// assert_eq!(job.to_bytes()?, file);
+    ///
+    /// job.cone = 11.0;
+    /// assert_eq!(job.to_bytes().unwrap_err().number(), 18);
+    /// # Ok::<(), maztubel::Refusal>(())
+    /// ```
+    pub fn to_bytes(&self) -> Result<Vec<u8>, Refusal> {
+        let needed = self.chain.bytes().len() + size_of_val(&self.poses[..]) + TRAILER;
+        let mut bytes = vec![0; needed.min(Job::MOST_BYTES)];
+        let length = self.write_into(&mut bytes)?;
+        bytes.truncate(length);
+        Ok(bytes)
+    }
+
+    /// The same at the front of a slice, which is 28 where it is too short; answers how many bytes the job has. Those
+    /// behind it stay, and a refusal keeps all.
+    ///
+    /// ```
+    /// use maztubel::Job;
+    ///
+    /// let file = std::fs::read("../../examples/jobs/example.job").unwrap();
+    /// let job = Job::read(&file)?;
+    /// let mut bytes = [9; 300];
+    /// assert_eq!(job.write_into(&mut bytes[..file.len() - 1]).unwrap_err().number(), 28);
+    /// assert_eq!(bytes, [9; 300]);
+    /// assert_eq!(job.write_into(&mut bytes)?, file.len());
+    /// assert_eq!((&bytes[..file.len()], bytes[file.len()]), (&file[..], 9));
+    /// # Ok::<(), maztubel::Refusal>(())
+    /// ```
+    pub fn write_into(&self, bytes: &mut [u8]) -> Result<usize, Refusal> {
+        let Tolerances { chord, axis } = self.tolerances;
+        let poses = flat::numbers(&self.poses);
+        let told = flat::write_job(&self.chain.bytes(), poses, self.cone, chord, axis, bytes);
+        told.served()?;
+        Ok(told.count as usize)
+    }
 }
+
+/// The bytes of a trailer.
+const TRAILER: usize = 40;
 
 /// The poses of [`Job::read`] alone, in a slice of at least as many, with +0.0 behind them; answers how many there are. A refusal
 /// keeps the slice.

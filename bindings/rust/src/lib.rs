@@ -1,6 +1,6 @@
-//! The rotary kinematics of a five-axis postprocessor: joints for tool poses on a chain of one or two rotaries, poses inserted
-//! until two tolerances hold, and jobs from their bytes. The work is done by the static library `maztubel`, whose every function
-//! is proved against its contract; this crate gives it Rust's types.
+//! The rotary kinematics of a five-axis postprocessor: joints for tool poses on a chain of one or two rotaries, poses
+//! inserted until two tolerances hold, and jobs from and to their bytes. The work is done by the static library
+//! `maztubel`, whose every function is proved against its contract; this crate gives it Rust's types.
 //!
 //! ```
 //! use maztubel::{Carrier, Chain, Pose, Rotary, Start, Tolerances, solve_and_divide};

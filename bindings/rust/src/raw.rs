@@ -185,6 +185,20 @@ unsafe extern "C" {
         poses_length: usize,
         at: &mut u64,
     ) -> u32;
+    pub fn maztubel_write_job(
+        chain: *const u8,
+        chain_length: usize,
+        poses: *const f64,
+        poses_length: usize,
+        cone: f64,
+        chord: f64,
+        axis: f64,
+        job: *mut u8,
+        job_length: usize,
+        length: &mut u64,
+        at: &mut u64,
+        letter: &mut u8,
+    ) -> u32;
     pub fn maztubel_cable_number(
         chain: *const u8,
         chain_length: usize,

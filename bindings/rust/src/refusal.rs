@@ -83,10 +83,12 @@ reasons! {
     ToolAxisZero = 15,
         "the tool axis must have a direction (finite, a component above 1e-15 in size, a length that does not \
          overflow)";
-    NotFinite = 16, "joints, start, hint and tips must be finite, in a division tool axes too";
+    NotFinite = 16,
+        "joints, start, hint and tips must be finite, in a division and in a job that is written tool axes too";
     TooLarge = 17,
         "sizes must be at most 100,000 mm (tip, pivot, tool length), 10,000,000 mm (joint position), 36,000 degrees \
-         (angle, hint), 100,000 poses, 800 radians (sine, cosine), 1 (arccosine), and finite (arctangent)";
+         (angle, hint), 100,000 poses, 65,536 bytes (a job that is written), 800 radians (sine, cosine), 1 (arccosine), \
+         and finite (arctangent)";
     Cone = 18, "the cone must be finite, above 0 and at most 10 degrees";
     Tolerance = 19, "the chord tolerance (mm) and the axis tolerance (degrees) must be finite and above 0";
     LengthsDiffer = 20,
@@ -102,7 +104,7 @@ reasons! {
     PoseUnreachable = 25, "a pose's tool axis must have a direction that the rotaries reach";
     AngleTooLarge = 26, "a pose's angles must be at most 36,000 degrees in size";
     TooManyInsertions = 27, "a division must insert at most 10,000 poses";
-    NoSpace = 28, "the outputs must have space for every pose";
+    NoSpace = 28, "the outputs must have space for every pose, and for the job that is written";
     Malformed = 29, "the bytes of a chain, a job or a model must have the form of docs/FORMAT.md";
     ParallelRotaries = 30,
         "on a path two rotaries must not be parallel: the cross product of their unit axes must have a length of at \

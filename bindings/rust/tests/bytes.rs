@@ -39,7 +39,7 @@ const NAME: &[u8] = b"mill";
 type OfAChain = (&'static str, fn(&[u8]) -> Told);
 
 /// Every entry that reads a chain, the rest sound.
-const OF_A_CHAIN: [OfAChain; 11] = [
+const OF_A_CHAIN: [OfAChain; 12] = [
     ("check_chain", flat::check_chain),
     ("forward", |chain| {
         flat::forward(chain, &JOINTS, 10.0, &mut [0.0; 6])
@@ -68,6 +68,13 @@ const OF_A_CHAIN: [OfAChain; 11] = [
     ("solve_and_divide", |chain| {
         let (poses, joints) = (&mut [0.0; 6], &mut [0.0; 5]);
         flat::solve_and_divide(chain, &POSE, &[], 1.0, 1.0, 1.0, poses, joints)
+    }),
+    ("write_job", |chain| {
+        let mut job = [9; 300];
+        let told = flat::write_job(chain, &POSE, 1.0, 1.0, 1.0, &mut job);
+        assert_eq!(told.number == 0, told.count == chain.len() as u64 + 88);
+        assert_eq!(told.number == 0, job != [9; 300]);
+        told
     }),
     ("cable_number", |chain| {
         let mut number = 9;
@@ -171,6 +178,40 @@ fn of_jobs() {
         let long = [front, &apart, trailer].concat();
         job_read(&long, fence);
         assert_eq!(read_apart(&long).0, if most > 65_536 { 29 } else { 0 });
+    }
+}
+
+/// A job written into every room from none to some bytes more than it has, among guard bytes and against either wall:
+/// where it is short everything is kept, else what stands behind the job.
+#[test]
+fn of_rooms() {
+    let fence = &mut Fenced::new(400);
+    let (chain, poses) = (tables().bytes(), pose_numbers(&arc(2)));
+    let job = packed(&chain, &poses, NUMBERS);
+    let [cone, chord, axis] = NUMBERS;
+    let ask = |room: &mut [u8]| flat::write_job(&chain, &poses, cone, chord, axis, room);
+    for room in 0..job.len() + 9 {
+        let before = vec![9u8; room];
+        let mut after = before.clone();
+        let mut expected = Told {
+            number: 28,
+            ..Told::default()
+        };
+        if let Some(front) = after.get_mut(..job.len()) {
+            front.copy_from_slice(&job);
+            (expected.number, expected.count) = (0, job.len() as u64);
+        }
+        for guard in [0u8, 1, 255] {
+            let around = [guard; 13];
+            let mut all = [&around[..], &before, &around].concat();
+            assert_eq!(ask(&mut all[13..13 + room]), expected, "room {room}");
+            assert_eq!(all, [&around[..], &after, &around].concat(), "room {room}");
+        }
+        for flush in FLUSHES {
+            let lent = fence.lend(&before, flush);
+            assert_eq!(ask(lent), expected, "room {room}");
+            assert_eq!(lent, after, "room {room}");
+        }
     }
 }
 

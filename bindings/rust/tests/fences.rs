@@ -18,7 +18,7 @@ const SEGMENTATION_FAULT: i32 = 11;
 /// A call on what stands in a fence, and so many words more.
 type Touch = fn(&mut Fenced, Flush, usize) -> Told;
 
-const TOUCHES: [Touch; 3] = [numbers_read, numbers_written, bytes_read];
+const TOUCHES: [Touch; 4] = [numbers_read, numbers_written, bytes_read, bytes_written];
 
 fn numbers_read(fence: &mut Fenced, flush: Flush, more: usize) -> Told {
     let xs = stretched(fence.lend(&[0.5; 3], flush), flush, more);
@@ -38,6 +38,14 @@ fn bytes_read(fence: &mut Fenced, flush: Flush, more: usize) -> Told {
         Flush::End => &chain[..chain.len() - more],
     };
     flat::check_chain(stretched(fence.lend(there, flush), flush, more))
+}
+
+/// A job, of which with one byte more the first or the last has no place.
+fn bytes_written(fence: &mut Fenced, flush: Flush, more: usize) -> Told {
+    let chain = table_a().bytes();
+    let room = vec![0; chain.len() + 40 - more];
+    let room = stretched(fence.lend(&room, flush), flush, more);
+    flat::write_job(&chain, &[], 1.0, 0.25, 0.5, room)
 }
 
 /// Past the end that is at a wall.

@@ -10,7 +10,7 @@ mod answer;
 #[allow(dead_code)]
 mod draw;
 
-use common::{arc, job_bytes, table_a};
+use common::{arc, job_bytes, packed, pose_numbers, table_a};
 use maztubel::{Job, Place, Start, Tolerances, solve_and_divide};
 use std::collections::{BTreeMap, BTreeSet};
 use std::fs;
@@ -121,6 +121,39 @@ fn readings() {
     }
 }
 
+/// Each job that is read is written closely packed, or refused; one that has no gaps is written as it was.
+#[test]
+fn rewritings() {
+    let (mut same, mut closed, mut refused) = (0, 0, 0);
+    for (name, bytes) in jobs() {
+        let Ok(job) = Job::read(&bytes) else {
+            continue;
+        };
+        let Ok(written) = job.to_bytes() else {
+            refused += 1;
+            continue;
+        };
+        let Tolerances { chord, axis } = job.tolerances;
+        let apart = packed(
+            &job.chain.bytes(),
+            &pose_numbers(&job.poses),
+            [job.cone, chord, axis],
+        );
+        assert_eq!(written, apart, "{name}");
+        assert_eq!(Job::read(&written), Ok(job), "{name}");
+        if written.len() == bytes.len() {
+            assert_eq!(written, bytes, "{name}");
+            same += 1;
+        } else {
+            closed += 1;
+        }
+    }
+    assert!(
+        same > 9 && closed > 0 && refused > 9,
+        "{same} {closed} {refused}"
+    );
+}
+
 /// The answer's first line, with the place of what the reader refuses.
 fn in_short(bytes: &[u8]) -> String {
     match job::read(bytes) {
@@ -156,6 +189,8 @@ fn every_number() {
     let numbers: Vec<u32> = numbers.into_iter().collect();
     assert_eq!(
         numbers,
-        [3, 4, 5, 6, 7, 8, 9, 16, 17, 18, 19, 23, 24, 25, 26, 28, 29, 30]
+        [
+            3, 4, 5, 6, 7, 8, 9, 16, 17, 18, 19, 23, 24, 25, 26, 28, 29, 30
+        ]
     );
 }

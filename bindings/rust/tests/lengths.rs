@@ -153,13 +153,6 @@ fn one_length(read: &[Vec<f64>], lengths: &[usize], fences: &mut [Fenced], ask: 
     }
 }
 
-fn pose_numbers() -> Vec<f64> {
-    arc(2)
-        .iter()
-        .flat_map(|pose| [pose.tip, pose.axis].concat())
-        .collect()
-}
-
 #[test]
 fn of_numbers() {
     let xs = vec![0.25, -0.5, 0.125];
@@ -208,7 +201,7 @@ fn of_forward() {
 #[test]
 fn of_inverse() {
     let chain = tables().bytes();
-    let read = [pose_numbers()[6..].to_vec(), vec![5.0, 6.0]];
+    let read = [pose_numbers(&arc(2))[6..].to_vec(), vec![5.0, 6.0]];
     every_length(
         &read,
         &[250],
@@ -239,7 +232,7 @@ fn start_good(length: usize) -> bool {
 #[test]
 fn of_solve_path() {
     let chain = tables().bytes();
-    let read = [pose_numbers(), vec![0.0, 0.0, 0.0, 10.0, 20.0]];
+    let read = [pose_numbers(&arc(2)), vec![0.0, 0.0, 0.0, 10.0, 20.0]];
     let whole = |l: &[usize]| l[0].is_multiple_of(6) && start_good(l[1]) && l[2].is_multiple_of(5);
     every_length(
         &read,
@@ -253,7 +246,7 @@ fn of_solve_path() {
 fn of_subdivide_path() {
     let chain = tables().bytes();
     let read = [
-        pose_numbers(),
+        pose_numbers(&arc(2)),
         vec![0.0, 0.0, 50.0, 0.0, 0.0, 1.0, 0.0, 50.0, 10.0, 0.0],
     ];
     let whole = |l: &[usize]| {
@@ -273,7 +266,7 @@ fn of_subdivide_path() {
 #[test]
 fn of_solve_and_divide() {
     let chain = tables().bytes();
-    let read = [pose_numbers(), vec![0.0, 0.0, 0.0, 10.0, 20.0]];
+    let read = [pose_numbers(&arc(2)), vec![0.0, 0.0, 0.0, 10.0, 20.0]];
     let whole = |l: &[usize]| {
         l[0].is_multiple_of(6)
             && start_good(l[1])
@@ -302,6 +295,29 @@ fn of_job_poses() {
             told
         };
         every_length(&[], &[6 * count], ask, &|l| l[0].is_multiple_of(6));
+    }
+}
+
+/// The job is held to the one that is packed by hand, in a room for any of them.
+#[test]
+fn of_write_job() {
+    const ROOM: usize = 1000;
+    for chain in [table_a().bytes(), tables().bytes()] {
+        let ask: Ask = &|r, _| {
+            let mut job = [9; ROOM];
+            let [cone, chord, axis] = NUMBERS;
+            let told = flat::write_job(&chain, r[0], cone, chord, axis, &mut job);
+            let mut expected = match told.number {
+                0 => packed(&chain, r[0], NUMBERS),
+                _ => vec![],
+            };
+            assert_eq!(told.count, expected.len() as u64);
+            expected.resize(ROOM, 9);
+            assert_eq!(job[..], expected);
+            told
+        };
+        let poses = pose_numbers(&arc(2));
+        every_length(&[poses], &[], ask, &|l| l[0].is_multiple_of(6));
     }
 }
 

@@ -220,7 +220,8 @@ fn parallel_rotaries() {
     assert!(choose(&chain, &poses[0], 0.0, Choice::FirstPositive).is_ok());
     assert!(forward(&chain, &Joints::default(), 0.0).is_ok());
     assert_eq!(cable_number(&chain, &[Joints::default()], 0), Ok(0));
-    let numbers = [0.999e-9, 1.001e-9].map(|off| solved(&leaning(off), &[]).map_err(|r| r.number()));
+    let numbers =
+        [0.999e-9, 1.001e-9].map(|off| solved(&leaning(off), &[]).map_err(|r| r.number()));
     assert_eq!(numbers, [Err(30), Ok(vec![])]);
 }
 
@@ -482,6 +483,114 @@ fn space_for_a_job() {
     let longest = |count| Job::read(&job_bytes(&head_c(Z, None), &arc(count)));
     assert_eq!(longest(1362).unwrap().poses, arc(1362));
     refused(longest(1363).unwrap_err(), 29, Place::Offset(0));
+}
+
+/// What a job is refused with when it is written, from the last check to the first, each with every later fault too. 30
+/// is not among them.
+#[test]
+fn written_jobs() {
+    let mut job = Job {
+        chain: tables(),
+        poses: arc(3),
+        cone: 1.0,
+        tolerances: TOLERANCES,
+    };
+    let before = [9; 400];
+    let mut bytes = before;
+    let mut refuse = |job: &Job, number, place, room| {
+        let refusal = job.write_into(&mut bytes[..room]).unwrap_err();
+        refused(refusal, number, place);
+        assert_eq!(bytes, before);
+    };
+    refuse(&job, 28, Place::Inserted(0), 176 + 3 * 48 + 39);
+    assert_eq!(job.to_bytes().unwrap().len(), 176 + 3 * 48 + 40);
+    type Fault = (u32, Place, fn(&mut Job));
+    let faults: [Fault; 12] = [
+        (17, Place::Whole, |job| job.poses[2].tip[1] = -100_000.1),
+        (16, Place::Whole, |job| job.poses[1].axis[2] = f64::NAN),
+        (19, Place::Whole, |job| job.tolerances.axis = 0.0),
+        (19, Place::Whole, |job| job.tolerances.chord = f64::INFINITY),
+        (18, Place::Whole, |job| job.cone = 10.000000000000002),
+        (9, Place::Whole, |job| job.chain.spindle = [0.0; 3]),
+        (8, Place::Rotary(1), |job| {
+            job.chain.rotaries[1].limits = Some(Limits { min: 1.0, max: 1.0 })
+        }),
+        (6, Place::Rotary(1), |job| {
+            job.chain.rotaries[1].pivot[0] = f64::NAN
+        }),
+        (7, Place::Rotary(1), |job| {
+            job.chain.rotaries[1].axis = [0.0; 3]
+        }),
+        (5, Place::Rotary(1), |job| {
+            job.chain.rotaries[1].letter = b'A'
+        }),
+        (4, Place::Rotary(1), |job| {
+            job.chain.rotaries[1].letter = b'a'
+        }),
+        (3, Place::Whole, |job| {
+            job.chain.rotaries.push(job.chain.rotaries[0])
+        }),
+    ];
+    for (number, place, fault) in faults {
+        fault(&mut job);
+        refuse(&job, number, place, 100);
+        refused(job.to_bytes().unwrap_err(), number, place);
+    }
+}
+
+/// The longest jobs with one rotary and with two; a pose more is 17, also where there is no space for it.
+#[test]
+fn longest_jobs() {
+    for (chain, most) in [(head_c(Z, None), 1362), (tables(), 1360)] {
+        let job = |count| Job {
+            chain: chain.clone(),
+            poses: arc(count),
+            cone: 1.0,
+            tolerances: TOLERANCES,
+        };
+        let bytes = job(most).to_bytes().unwrap();
+        assert_eq!(bytes.len(), chain.bytes().len() + 48 * most + 40);
+        assert_eq!(Job::read(&bytes), Ok(job(most)));
+        for room in [0, 100_000] {
+            let refusal = job(most + 1).write_into(&mut vec![9; room]).unwrap_err();
+            refused(refusal, 17, Place::Whole);
+        }
+    }
+}
+
+/// -0.0, the smallest numbers and the largest sizes come back with their bits, an axis that is zero too, and two
+/// parallel rotaries.
+#[test]
+fn numbers_of_a_written_job() {
+    let least = f64::from_bits(1);
+    let chain = changed(|c| {
+        c.rotaries[1].axis = [-1.0, -0.0, least];
+        c.rotaries[1].pivot = [-0.0, 100_000.0, -100_000.0];
+        c.rotaries[0].limits = Some(Limits {
+            min: -f64::MAX,
+            max: -0.0,
+        });
+    });
+    let poses = vec![
+        pose([-0.0, -least, 100_000.0], [0.0, -0.0, 0.0]),
+        pose([-100_000.0, least, 0.0], [f64::MAX, -f64::MAX, least]),
+    ];
+    let numbers = pose_numbers(&poses);
+    let (cone, chord, axis) = (10.0, least, f64::MAX);
+    let job = Job {
+        chain,
+        poses,
+        cone,
+        tolerances: Tolerances { chord, axis },
+    };
+    let bytes = job.to_bytes().unwrap();
+    assert_eq!(
+        bytes,
+        packed(&job.chain.bytes(), &numbers, [cone, chord, axis])
+    );
+    let read = Job::read(&bytes).unwrap();
+    assert_eq!(read.chain.bytes(), job.chain.bytes());
+    assert_eq!(read.to_bytes().unwrap(), bytes);
 }
 
 fn cable_refused(number: u32, place: Place, chain: &Chain, joints: &[Joints]) {

@@ -20,7 +20,7 @@ use chain::then;
 use middle::Tolerances;
 use turn::joints_in;
 
-fn tolerance_good(t: f64) -> bool
+pub fn tolerance_good(t: f64) -> bool
     ensures { λ r. ⌜ r ≡ S.toleranceGood t ⌝ }
 {
     if float::finite(t) {
@@ -38,7 +38,7 @@ fn number_finite(x: f64) -> bool
 }
 
 // The first `count` numbers.
-fn numbers_finite(numbers: &[f64], count: usize) -> bool
+pub fn numbers_finite(numbers: &[f64], count: usize) -> bool
     requires { ⌜ count ≤ length (now numbers) ⌝ }
     ensures finite { λ r. ⌜ r ≡ all finite (take count (now (numbers .entry))) ⌝ }
     ensures fit { λ r. ⌜ (r ≡ true → S.FitUpTo count (now (numbers .entry))) ⌝ }
@@ -53,7 +53,7 @@ fn numbers_finite(numbers: &[f64], count: usize) -> bool
     true
 }
 
-fn tips_within(poses: &[f64]) -> bool
+pub fn tips_within(poses: &[f64]) -> bool
     ensures { λ r. ⌜ r ≡ all S.tipWithin (posesIn (now (poses .entry))) ⌝ }
 {
     let n = poses.len() / 6;

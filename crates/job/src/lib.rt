@@ -10,6 +10,7 @@ use chain::Kinematics;
 pub use job_bytes::read_job;
 pub use lending::job_poses;
 use refusal::Refusal;
+pub use spelling::bits_of;
 pub use telling::answer_text;
 pub use winding::cable_number;
 

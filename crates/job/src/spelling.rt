@@ -86,7 +86,7 @@ pub fn put_paired(label: &[u8], x: u64, word: &[u8], y: u64, out: &mut [u8], at:
 }
 
 // The bit pattern; of every nan that of the one nan, though no answer has any.
-fn bits_of(x: f64) -> u64
+pub fn bits_of(x: f64) -> u64
     ensures { λ r. ⌜ r ≡ S.bitsOf x ⌝ }
 {
     if x != x {

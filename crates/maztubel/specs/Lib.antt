@@ -6,5 +6,6 @@ pub mod InverseEntries
 pub mod PathEntries
 pub mod DivideEntries
 pub mod JobEntries
+pub mod WriteEntries
 pub mod Steps
 pub mod Examples

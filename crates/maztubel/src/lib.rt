@@ -4,7 +4,7 @@
 // Sine, cosine, arctangent and arccosine, of one argument and of slices. A slice form tests every argument before it writes the
 // first answer, so that a refusal leaves the slice as it was. The entries of a chain stand in chain_entries, those of the inverse map
 // in inverse_entries, those of a model in link_entries, that of a path in path_entries, those that divide in divide_entries, those of
-// a job in job_entries; a crate above calls all of them from here.
+// a job in job_entries, the one that writes a job in write_entries; a crate above calls all of them from here.
 mod chain_entries;
 mod divide_entries;
 mod inverse_entries;
@@ -12,6 +12,7 @@ mod job_entries;
 mod lent;
 mod link_entries;
 mod path_entries;
+mod write_entries;
 
 pub use chain_entries::maztubel_check_chain;
 pub use chain_entries::maztubel_forward;
@@ -26,6 +27,7 @@ pub use link_entries::maztubel_check_model;
 pub use link_entries::maztubel_link_in_part;
 pub use link_entries::maztubel_link_world;
 pub use path_entries::maztubel_solve_path;
+pub use write_entries::maztubel_write_job;
 ghost use mathlib.Core.Path.{_≡_};
 ghost use mathlib.Core.Bool.{_&&_};
 ghost use mathlib.Core.List.{map};

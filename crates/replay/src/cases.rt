@@ -126,3 +126,14 @@ pub fn room(case: &[u8], index: u8, numbers: &[f64]) -> usize
     }
     numbers.len()
 }
+
+// How many of the bytes are lent.
+pub fn byte_room(case: &[u8], index: u8, bytes: &[u8]) -> usize
+    ensures { λ r. ⌜ (r ≤ length (now (bytes .entry))) × (r ≡ length (take r (now (bytes .entry)))) ⌝ }
+{
+    let asked = field(case, index) as usize;
+    if asked < bytes.len() {
+        return asked;
+    }
+    bytes.len()
+}

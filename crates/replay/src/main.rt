@@ -87,6 +87,7 @@ fn call(case: &[u8], first: &[f64], second: &[f64], lent: &mut [f64], other: &mu
         14 => functions::cosine(case),
         15 => functions::arctangent(case),
         16 => functions::arccosine(case),
+        17 => paths::write_job(case, first),
         _ => told::unknown(),
     }
 }

@@ -1,7 +1,10 @@
-// The entries of paths, of division, of jobs and of the cable number. A job stands where another case has its chain.
+// The entries of paths, of division, of jobs and of the cable number. A job that is read stands where another case has
+// its chain.
 use crate::cases::WHICH;
+use crate::cases::byte_room;
 use crate::cases::chain_or_job;
 use crate::cases::field;
+use crate::cases::numbers;
 use crate::cases::single;
 use crate::told;
 
@@ -131,4 +134,38 @@ pub fn cable_number(case: &[u8], joints: &[f64]) {
     told::begin(b"cable_number", number, at, letter);
     told::count(turns);
     told::end();
+}
+
+pub fn write_job(case: &[u8], poses: &[f64]) {
+    let mut job = [7u8; 1024];
+    let room = byte_room(case, WHICH, &job);
+    write_into(case, poses, &mut job[..room]);
+}
+
+fn write_into(case: &[u8], poses: &[f64], job: &mut [u8]) {
+    let mut length: u64 = 7;
+    let mut at: u64 = 7;
+    let mut letter: u8 = 7;
+    let number = maztubel::maztubel_write_job(
+        chain_or_job(case),
+        poses,
+        single(case, 0),
+        single(case, 1),
+        single(case, 2),
+        job,
+        &mut length,
+        &mut at,
+        &mut letter,
+    );
+    told::begin(b"write_job", number, at, letter);
+    told::count(length);
+    tell_bytes(job);
+    told::end();
+}
+
+// As numbers, eight bytes each.
+fn tell_bytes(bytes: &[u8]) {
+    let mut words = [0.0f64; 128];
+    let n = numbers(bytes, &mut words);
+    told::numbers(&words[..n]);
 }

@@ -135,6 +135,7 @@ mod sample {
         let mut all = of_machines();
         all.extend(of_paths());
         all.extend(of_functions(sums));
+        all.push(of_writer());
         all
     }
 
@@ -200,6 +201,16 @@ mod sample {
                 replayed_jobs::of_cable,
             ),
         ]
+    }
+
+    fn of_writer<'a>() -> Entry<'a> {
+        let refused = [16, 17, 18, 19, 20, 28];
+        Entry::new(
+            "write_job",
+            110,
+            &[&CHAIN, &refused],
+            replayed_jobs::of_write,
+        )
     }
 
     fn of_functions(sums: &Sums) -> Vec<Entry<'_>> {

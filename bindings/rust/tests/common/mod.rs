@@ -63,16 +63,32 @@ pub fn arc(count: usize) -> Vec<Pose> {
     (0..count).map(at).collect()
 }
 
+/// The poses' numbers, six each.
+pub fn pose_numbers(poses: &[Pose]) -> Vec<f64> {
+    let six = |pose: &Pose| [pose.tip, pose.axis].concat();
+    poses.iter().flat_map(six).collect()
+}
+
+/// The cone and the tolerances of `job_bytes`.
+pub const NUMBERS: [f64; 3] = [1.0, 0.25, 0.5];
+
 /// The bytes of a job: a chain, poses, the trailer.
 pub fn job_bytes(chain: &Chain, poses: &[Pose]) -> Vec<u8> {
-    let chain = chain.bytes();
-    let numbers = poses.iter().flat_map(|pose| [pose.tip, pose.axis].concat());
-    let words = [0, chain.len() as u32, poses.len() as u32, 0];
+    packed(&chain.bytes(), &pose_numbers(poses), NUMBERS)
+}
+
+/// A job's bytes from its parts, by hand: what the library writes is held to them. The last numbers are the cone and
+/// the tolerances.
+pub fn packed(chain: &[u8], poses: &[f64], numbers: [f64; 3]) -> Vec<u8> {
+    let words = [0, chain.len() as u32, poses.len() as u32 / 6, 0];
     [
-        chain,
-        numbers.flat_map(f64::to_le_bytes).collect(),
+        chain.to_vec(),
+        poses
+            .iter()
+            .flat_map(|number| number.to_le_bytes())
+            .collect(),
         words.map(u32::to_le_bytes).concat(),
-        [1.0, 0.25, 0.5].map(f64::to_le_bytes).concat(),
+        numbers.map(f64::to_le_bytes).concat(),
     ]
     .concat()
 }

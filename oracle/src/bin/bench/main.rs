@@ -4,6 +4,7 @@
 #[cfg_attr(not(original), path = "left_out.rs")]
 mod beside_rust;
 mod floats;
+mod jobs;
 mod picture;
 mod rows;
 mod svg;
@@ -41,6 +42,7 @@ fn timed() -> (Vec<Section>, Vec<Row>) {
     for section in &sections {
         show(&section.table());
     }
+    show(&jobs::table());
     let of_waves = waves::grown();
     let (beside_rust, mut grown) = beside_rust::timed();
     sections.extend(beside_rust);

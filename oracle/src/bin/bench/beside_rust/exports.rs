@@ -2,7 +2,7 @@
 
 use super::finishing::CONE;
 use super::forwards::{TOOL_LENGTH, TWO_TABLES, chain};
-use oracle::maztubel::{self, Asked, Course, Lent, Machine};
+use oracle::maztubel::{self, Asked, Course, Lent, Machine, Parts};
 use oracle::models::{self, BOX, Link};
 
 const JOINTS: [f64; 5] = [100.0, -50.0, 20.0, 30.0, -70.0];
@@ -25,6 +25,7 @@ pub struct Given {
     chain: Vec<u8>,
     model: Vec<u8>,
     job: Vec<u8>,
+    written: [u8; 512],
     numbers: [f64; 250],
     places: [u64; 3],
     tolerances: [f64; 3],
@@ -36,7 +37,7 @@ pub struct Given {
 /// With its name.
 type Export = (&'static str, fn(&mut Given) -> u32);
 
-pub const EXPORTS: [Export; 20] = [
+pub const EXPORTS: [Export; 21] = [
     ("sine", |g| maztubel::maztubel_sine(0.5, &mut g.numbers[0])),
     ("cosine", |g| {
         maztubel::maztubel_cosine(0.5, &mut g.numbers[0])
@@ -119,6 +120,15 @@ pub const EXPORTS: [Export; 20] = [
     ("job_poses", |g| {
         maztubel::job_poses(&g.job, &mut g.numbers[..12], &mut g.at)
     }),
+    ("write_job", |g| {
+        let parts = Parts {
+            chain: &g.chain,
+            poses: THROUGH_THE_CONE.as_flattened(),
+            numbers: [1.0; 3],
+        };
+        let (length, at, letter) = (&mut g.count, &mut g.at, &mut g.letter);
+        maztubel::write_job(parts, &mut g.written, length, at, letter)
+    }),
     ("cable_number", |g| {
         maztubel::cable_number(&g.chain, &JOINTS, 0, &mut g.count, &mut g.at, &mut g.letter)
     }),
@@ -142,6 +152,7 @@ impl Given {
             job: job(&bytes, &[POSE, POSE].concat(), [1.0; 3]),
             chain: bytes,
             model: models::bytes(&links),
+            written: [0; 512],
             numbers: [0.0; 250],
             places: [0; 3],
             tolerances: [0.0; 3],
