@@ -88,7 +88,8 @@ enum {
     MAZTUBEL_TOOL_LENGTH = 14,
     /* the tool axis must have a direction (finite, a component above 1e-15 in size, a length that does not overflow) */
     MAZTUBEL_TOOL_AXIS_ZERO = 15,
-    /* joints, start, hint and tips must be finite, in a division and in a job that is written tool axes too */
+    /* joints, start, hint, tips and an angle that is asked for must be finite, in a division and in a job that is
+     * written tool axes too */
     MAZTUBEL_NOT_FINITE = 16,
     /* sizes must be at most 100,000 mm (tip, pivot, tool length), 10,000,000 mm (joint position), 36,000 degrees
      * (angle, hint), 100,000 poses, 65,536 bytes (a job that is written), 800 radians (sine, cosine), 1 (arccosine),
@@ -98,7 +99,8 @@ enum {
     MAZTUBEL_CONE = 18,
     /* the chord tolerance (mm) and the axis tolerance (degrees) must be finite and above 0 */
     MAZTUBEL_TOLERANCE = 19,
-    /* buffers must hold whole records, lengths that belong together must be equal, and a choice must be 0, 1 or 2 */
+    /* buffers must hold whole records, lengths that belong together must be equal, a choice must be 0, 1 or 2, an index
+     * must be that of a joint set, and the rotary that is asked for must be 0 or 1 */
     MAZTUBEL_LENGTHS_DIFFER = 20,
     /* the rotaries must reach the tool axis */
     MAZTUBEL_NOT_REACHABLE = 21,
@@ -508,6 +510,57 @@ uint32_t maztubel_write_job(const uint8_t *chain, size_t chain_length, const dou
  *   17      a position is above 10,000,000 mm in size, an angle above 36,000 degrees, a pivot above 100,000 mm */
 uint32_t maztubel_cable_number(const uint8_t *chain, size_t chain_length, const double *joints, size_t joints_length,
                                uint64_t rotary, uint64_t *number, uint64_t *at, uint8_t *letter);
+
+/* ---- Extremes beside a path
+ *
+ * A summary stands beside the joint sets of a path and is kept by the caller. It has 10 doubles for each group of 64
+ * joint sets, the last group maybe smaller: the smallest of each of the five numbers, then the largest of each, by
+ * IEEE 754's totalOrder, in which -0.0 stands before +0.0. So n joint sets have (n + 63) / 64 * 10 doubles, divided
+ * without a rest. Positions are in mm, angles in degrees. A path may have any number of joint sets.
+ *
+ *   joints   joint sets of 5 doubles each, as in maztubel_forward
+ *   summary  as above; its length must be that of the joints
+ *
+ * Every refusal changes nothing. After maztubel_build_extremes and any row of maztubel_replace_joints on the same
+ * joints and summary, refused calls among them, the summary has the bits that building it anew would give. */
+
+/* Writes the summary of the joints.
+ *
+ * Refusals, all of which keep the summary:
+ *   20  no whole joint sets, or the length of the summary
+ *   16  a joint is not finite
+ *   17  a position is above 10,000,000 mm in size, or an angle above 36,000 degrees */
+uint32_t maztubel_build_extremes(const double *joints, size_t joints_length, double *summary, size_t summary_length);
+
+/* Replaces one joint set, and works the ten numbers of its group out afresh from the joints. No other joint set is
+ * checked, and no other group is read or written.
+ *
+ *   index  which joint set, from 0
+ *   fresh  5 doubles: what it becomes
+ *
+ * Refusals, all of which keep joints and summary:
+ *   20  no whole joint sets, the length of the summary, fresh is not 5 doubles, or there is no joint set with that
+ *       index
+ *   16  a number of fresh is not finite
+ *   17  a position of fresh is above 10,000,000 mm in size, or an angle above 36,000 degrees */
+uint32_t maztubel_replace_joints(double *joints, size_t joints_length, double *summary, size_t summary_length,
+                                 uint64_t index, const double *fresh, size_t fresh_length);
+
+/* The first joint set whose angle of a rotary is above a given one, compared as floats: an angle is not above itself,
+ * and +0.0 is not above -0.0. Groups whose largest is not above are skipped, and their joints are not read, whatever
+ * they hold. Where the joints are finite and the summary is theirs the answer is that of reading them all.
+ *
+ *   rotary  0 for the first angle of each joint set, 1 for the second
+ *   angle   in degrees
+ *   found   output, 1 if there is such a joint set, else 0
+ *   index   output, its index from 0; 0 if there is none
+ *
+ * Refusals, all of which keep both outputs:
+ *   20  no whole joint sets, the length of the summary, or a rotary that is not 0 or 1
+ *   16  the angle is not finite
+ *   17  the angle is above 36,000 degrees in size */
+uint32_t maztubel_first_above(const double *joints, size_t joints_length, const double *summary, size_t summary_length,
+                              uint64_t rotary, double angle, uint64_t *found, uint64_t *index);
 
 #ifdef __cplusplus
 }

@@ -18,6 +18,8 @@ pub mod divided_with_libm;
 #[cfg(original)]
 pub mod divisions;
 pub mod exact;
+pub mod extremes;
+pub mod extremes_tally;
 pub mod floats;
 #[cfg(original)]
 pub mod from_libm;
@@ -71,6 +73,7 @@ pub mod remarkable;
 pub mod replayed;
 #[cfg(original)]
 pub mod replayed_calls;
+pub mod replayed_extremes;
 pub mod replayed_functions;
 #[cfg(original)]
 pub mod replayed_jobs;

@@ -393,3 +393,50 @@ pub fn cable_number(
         )
     }
 }
+
+pub fn build_extremes(joints: &[f64], summary: &mut [f64]) -> u32 {
+    unsafe {
+        maztubel_build_extremes(
+            joints.as_ptr(),
+            joints.len(),
+            summary.as_mut_ptr(),
+            summary.len(),
+        )
+    }
+}
+
+pub fn replace_joints(joints: &mut [f64], summary: &mut [f64], index: u64, fresh: &[f64]) -> u32 {
+    unsafe {
+        maztubel_replace_joints(
+            joints.as_mut_ptr(),
+            joints.len(),
+            summary.as_mut_ptr(),
+            summary.len(),
+            index,
+            fresh.as_ptr(),
+            fresh.len(),
+        )
+    }
+}
+
+pub fn first_above(
+    joints: &[f64],
+    summary: &[f64],
+    rotary: u64,
+    angle: f64,
+    found: &mut u64,
+    index: &mut u64,
+) -> u32 {
+    unsafe {
+        maztubel_first_above(
+            joints.as_ptr(),
+            joints.len(),
+            summary.as_ptr(),
+            summary.len(),
+            rotary,
+            angle,
+            found,
+            index,
+        )
+    }
+}

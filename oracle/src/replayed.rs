@@ -17,7 +17,7 @@ const MOST_ROOMS: [usize; 2] = [256, 128];
 const ROOMS_OF_27: [usize; 2] = [60_012, 50_010];
 
 /// Every entry, by its number in a case.
-pub const ENTRIES: [&str; 18] = [
+pub const ENTRIES: [&str; 21] = [
     "check_chain",
     "forward",
     "check_model",
@@ -36,6 +36,9 @@ pub const ENTRIES: [&str; 18] = [
     "arctangent",
     "arccosine",
     "write_job",
+    "build_extremes",
+    "replace_joints",
+    "first_above",
 ];
 
 /// What a call is given: the choice or the rotary; the bytes of a chain or of a job; a name, a model and a carrier; two slices of

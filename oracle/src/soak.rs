@@ -2,6 +2,7 @@
 //! a generator of its own; and now and then the few cases that take longer.
 
 use crate::exact::Sums;
+use crate::extremes_tally::Extremes;
 use crate::insertions::Insertions;
 use crate::inverse_tally::Tally as Inverses;
 use crate::job_tally::JobTally;
@@ -26,12 +27,13 @@ pub struct Soak {
     divisions: Insertions,
     jobs: JobTally,
     writes: WriteTally,
+    extremes: Extremes,
 }
 
 type Part = fn(&mut Soak, &mut Random);
 
 /// Of the parts six divide, half of the time each of the two entries, and three solve paths: their calls take longest.
-const ROUND: [Part; 21] = [
+const ROUND: [Part; 22] = [
     Soak::waves,
     Soak::chains,
     Soak::inverses,
@@ -53,15 +55,17 @@ const ROUND: [Part; 21] = [
     Soak::divisions,
     Soak::jobs,
     Soak::writes,
+    Soak::extremes,
 ];
 
 /// One round in so many, the second of them first, has the cases that take longer.
 const ROUNDS: u64 = 32;
-const LONG: [Part; 4] = [
+const LONG: [Part; 5] = [
     Soak::long_paths,
     Soak::exact_divisions,
     Soak::long_divisions,
     Soak::short_jobs,
+    Soak::long_extremes,
 ];
 
 impl Outcome for Soak {
@@ -73,6 +77,7 @@ impl Outcome for Soak {
         self.divisions.add(more.divisions);
         self.jobs.add(more.jobs);
         self.writes.add(more.writes);
+        self.extremes.add(more.extremes);
     }
 }
 
@@ -121,6 +126,10 @@ impl Soak {
         self.writes.compare_drawn(4_000, random);
     }
 
+    fn extremes(&mut self, random: &mut Random) {
+        self.extremes.compare_drawn(600, random);
+    }
+
     fn long_paths(&mut self, random: &mut Random) {
         self.paths.compare_long(random);
     }
@@ -137,7 +146,11 @@ impl Soak {
         self.jobs.compare_each_change(random);
     }
 
-    fn families(&self) -> [&dyn Account; 7] {
+    fn long_extremes(&mut self, random: &mut Random) {
+        self.extremes.compare_long(random);
+    }
+
+    fn families(&self) -> [&dyn Account; 8] {
         let Soak {
             waves,
             chains,
@@ -146,8 +159,9 @@ impl Soak {
             divisions,
             jobs,
             writes,
+            extremes,
         } = self;
-        [waves, chains, inverses, paths, divisions, jobs, writes]
+        [waves, chains, inverses, paths, divisions, jobs, writes, extremes]
     }
 
     fn calls(&self) -> Vec<(&'static str, u64)> {

@@ -649,3 +649,92 @@ pub fn cable_number(chain: &[u8], joints: &[f64], rotary: u64, number: &mut u64)
     };
     told
 }
+
+/// The summary of joint sets, 5 numbers each: for every 64 of them the smallest of each number, then the largest of each, by
+/// totalOrder. A refusal keeps it.
+///
+/// ```
+/// use maztubel::flat;
+/// let mut summary = [9.0; 10];
+/// assert_eq!(flat::build_extremes(&[0.0; 4], &mut summary).number, 20);
+/// assert_eq!(flat::build_extremes(&[1.0, 2.0, 3.0, 4.0, 36_001.0], &mut summary).number, 17);
+/// assert_eq!(summary, [9.0; 10]);
+/// ```
+pub fn build_extremes(joints: &[f64], summary: &mut [f64]) -> Told {
+    let number = unsafe {
+        maztubel_build_extremes(
+            joints.as_ptr(),
+            joints.len(),
+            summary.as_mut_ptr(),
+            summary.len(),
+        )
+    };
+    Told {
+        number,
+        ..Told::default()
+    }
+}
+
+/// Replaces the joint set with this index by five numbers, and works its group of the summary out afresh. A refusal keeps both.
+///
+/// ```
+/// use maztubel::flat;
+/// let (mut joints, mut summary) = ([0.0; 5], [0.0; 10]);
+/// assert_eq!(flat::replace_joints(&mut joints, &mut summary, 1, &[1.0; 5]).number, 20);
+/// assert_eq!(flat::replace_joints(&mut joints, &mut summary, 0, &[1.0; 5]).number, 0);
+/// assert_eq!((joints, summary), ([1.0; 5], [1.0; 10]));
+/// ```
+pub fn replace_joints(joints: &mut [f64], summary: &mut [f64], index: u64, fresh: &[f64]) -> Told {
+    let number = unsafe {
+        maztubel_replace_joints(
+            joints.as_mut_ptr(),
+            joints.len(),
+            summary.as_mut_ptr(),
+            summary.len(),
+            index,
+            fresh.as_ptr(),
+            fresh.len(),
+        )
+    };
+    Told {
+        number,
+        ..Told::default()
+    }
+}
+
+/// Whether a joint set has an angle of the rotary, 0 or 1, above the given one: 1 and the index of the first, or 0 and 0. A refusal
+/// keeps both numbers.
+///
+/// ```
+/// use maztubel::flat;
+/// let (mut found, mut index) = (9, 9);
+/// assert_eq!(flat::first_above(&[], &[], 2, 0.0, &mut found, &mut index).number, 20);
+/// assert_eq!((found, index), (9, 9));
+/// assert_eq!(flat::first_above(&[], &[], 1, 0.0, &mut found, &mut index).number, 0);
+/// assert_eq!((found, index), (0, 0));
+/// ```
+pub fn first_above(
+    joints: &[f64],
+    summary: &[f64],
+    rotary: u64,
+    angle: f64,
+    found: &mut u64,
+    index: &mut u64,
+) -> Told {
+    let number = unsafe {
+        maztubel_first_above(
+            joints.as_ptr(),
+            joints.len(),
+            summary.as_ptr(),
+            summary.len(),
+            rotary,
+            angle,
+            found,
+            index,
+        )
+    };
+    Told {
+        number,
+        ..Told::default()
+    }
+}

@@ -35,6 +35,7 @@
 #![warn(missing_docs)]
 
 mod chain;
+mod extremes;
 #[allow(unsafe_code, clippy::too_many_arguments)]
 pub mod flat;
 mod inverse;
@@ -48,6 +49,7 @@ mod refusal;
 mod trig;
 
 pub use chain::{Carrier, Chain, Limits, Rotary, check_chain, forward};
+pub use extremes::{Extremes, GROUP};
 pub use inverse::{Choice, MOST_SOLUTIONS, choose, inverse};
 pub use job::{Job, cable_number, job_poses_into};
 pub use model::{Frame, Link, Machine, Mount, Solid, check_model, link_in_part, link_world};

@@ -209,4 +209,29 @@ unsafe extern "C" {
         at: &mut u64,
         letter: &mut u8,
     ) -> u32;
+    pub fn maztubel_build_extremes(
+        joints: *const f64,
+        joints_length: usize,
+        summary: *mut f64,
+        summary_length: usize,
+    ) -> u32;
+    pub fn maztubel_replace_joints(
+        joints: *mut f64,
+        joints_length: usize,
+        summary: *mut f64,
+        summary_length: usize,
+        index: u64,
+        fresh: *const f64,
+        fresh_length: usize,
+    ) -> u32;
+    pub fn maztubel_first_above(
+        joints: *const f64,
+        joints_length: usize,
+        summary: *const f64,
+        summary_length: usize,
+        rotary: u64,
+        angle: f64,
+        found: &mut u64,
+        index: &mut u64,
+    ) -> u32;
 }

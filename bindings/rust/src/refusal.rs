@@ -84,7 +84,8 @@ reasons! {
         "the tool axis must have a direction (finite, a component above 1e-15 in size, a length that does not \
          overflow)";
     NotFinite = 16,
-        "joints, start, hint and tips must be finite, in a division and in a job that is written tool axes too";
+        "joints, start, hint, tips and an angle that is asked for must be finite, in a division and in a job that is \
+         written tool axes too";
     TooLarge = 17,
         "sizes must be at most 100,000 mm (tip, pivot, tool length), 10,000,000 mm (joint position), 36,000 degrees \
          (angle, hint), 100,000 poses, 65,536 bytes (a job that is written), 800 radians (sine, cosine), 1 (arccosine), \
@@ -92,7 +93,8 @@ reasons! {
     Cone = 18, "the cone must be finite, above 0 and at most 10 degrees";
     Tolerance = 19, "the chord tolerance (mm) and the axis tolerance (degrees) must be finite and above 0";
     LengthsDiffer = 20,
-        "buffers must hold whole records, lengths that belong together must be equal, and a choice must be 0, 1 or 2";
+        "buffers must hold whole records, lengths that belong together must be equal, a choice must be 0, 1 or 2, an \
+         index must be that of a joint set, and the rotary that is asked for must be 0 or 1";
     NotReachable = 21, "the rotaries must reach the tool axis";
     OutsideLimits = 22,
         "the rotaries must reach the tool axis within their limits, without limits above -180 and at most 180 \

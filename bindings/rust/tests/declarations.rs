@@ -202,7 +202,10 @@ const FAULTS: [(&str, &str); 9] = [
         "maztubel_arctangent(double y, double x,",
         "maztubel_arctangent(double x, double y,",
     ),
-    ("uint64_t rotary,", "uint32_t rotary,"),
+    (
+        "uint64_t rotary, uint64_t *number,",
+        "uint32_t rotary, uint64_t *number,",
+    ),
     (
         "uint64_t *chain_at, uint64_t *poses_at,",
         "uint64_t *poses_at, uint64_t *chain_at,",

@@ -344,3 +344,57 @@ fn of_cable_number() {
         every_length(&[joints], &[], ask, &|l| l[0].is_multiple_of(5));
     }
 }
+
+/// How many numbers the summary of so many has.
+fn summary_of(numbers: usize) -> usize {
+    (numbers / 5).div_ceil(64) * 10
+}
+
+#[test]
+fn of_build_extremes() {
+    let ask: Ask = &|r, w| flat::build_extremes(r[0], w[0]);
+    let whole = |l: &[usize]| l[0].is_multiple_of(5) && l[1] == summary_of(l[0]);
+    every_length(&[vec![1.0, 2.0, 3.0, 40.0, 50.0]], &[10], ask, &whole);
+}
+
+/// Joints and summary are both written, and the joints hold what stands in them before.
+#[test]
+fn of_replace_joints() {
+    for index in [0, 1, 4] {
+        let ask: Ask = &|r, w| {
+            let [joints, summary] = w else { unreachable!() };
+            flat::replace_joints(joints, summary, index as u64, r[0])
+        };
+        let whole = |l: &[usize]| {
+            let sets = l[1] / 5;
+            l[0] == 5 && l[1].is_multiple_of(5) && index < sets && l[2] == summary_of(l[1])
+        };
+        let fresh = vec![1.0, 2.0, 3.0, 40.0, 50.0];
+        every_length(&[fresh], &[5 * (index + 1), 10], ask, &whole);
+    }
+}
+
+/// The lent numbers go with the answer as its count.
+#[test]
+fn of_first_above() {
+    let joints = vec![1.0, 2.0, 3.0, 40.0, 50.0];
+    let summary = [&joints[..], &joints[..]].concat();
+    let whole = |l: &[usize]| l[0].is_multiple_of(5) && l[1] == summary_of(l[0]);
+    for (rotary, angle, above) in [(0, 39.0, 1), (0, 40.0, 0), (1, 49.0, 1), (1, 50.0, 0)] {
+        let ask: Ask = &|r, _| {
+            let (mut found, mut index) = (9, 9);
+            let told = flat::first_above(r[0], r[1], rotary, angle, &mut found, &mut index);
+            let expected = match (told.number, r[0].len()) {
+                (0, 0) => (0, 0),
+                (0, _) => (above, 0),
+                _ => (9, 9),
+            };
+            assert_eq!((found, index), expected);
+            Told {
+                count: found,
+                ..told
+            }
+        };
+        every_length(&[joints.clone(), summary.clone()], &[], ask, &whole);
+    }
+}

@@ -7,5 +7,6 @@ pub mod PathEntries
 pub mod DivideEntries
 pub mod JobEntries
 pub mod WriteEntries
+pub mod ExtremesEntries
 pub mod Steps
 pub mod Examples

@@ -4,9 +4,11 @@
 // Sine, cosine, arctangent and arccosine, of one argument and of slices. A slice form tests every argument before it writes the
 // first answer, so that a refusal leaves the slice as it was. The entries of a chain stand in chain_entries, those of the inverse map
 // in inverse_entries, those of a model in link_entries, that of a path in path_entries, those that divide in divide_entries, those of
-// a job in job_entries, the one that writes a job in write_entries; a crate above calls all of them from here.
+// a job in job_entries, the one that writes a job in write_entries, those of the extremes beside a path in extremes_entries; a crate
+// above calls all of them from here.
 mod chain_entries;
 mod divide_entries;
+mod extremes_entries;
 mod inverse_entries;
 mod job_entries;
 mod lent;
@@ -18,6 +20,9 @@ pub use chain_entries::maztubel_check_chain;
 pub use chain_entries::maztubel_forward;
 pub use divide_entries::maztubel_solve_and_divide;
 pub use divide_entries::maztubel_subdivide_path;
+pub use extremes_entries::maztubel_build_extremes;
+pub use extremes_entries::maztubel_first_above;
+pub use extremes_entries::maztubel_replace_joints;
 pub use inverse_entries::maztubel_choose;
 pub use inverse_entries::maztubel_inverse;
 pub use job_entries::maztubel_cable_number;

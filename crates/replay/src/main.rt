@@ -4,6 +4,7 @@ mod cases;
 mod entries;
 mod functions;
 mod paths;
+mod summaries;
 mod told;
 
 ghost use Rattle.io.specs.Counts.{Counts};
@@ -88,6 +89,9 @@ fn call(case: &[u8], first: &[f64], second: &[f64], lent: &mut [f64], other: &mu
         15 => functions::arctangent(case),
         16 => functions::arccosine(case),
         17 => paths::write_job(case, first),
+        18 => summaries::build_extremes(first, lent),
+        19 => summaries::replace_joints(case, first, lent, other),
+        20 => summaries::first_above(case, first, second),
         _ => told::unknown(),
     }
 }

@@ -29,7 +29,8 @@ mod sample {
     use oracle::exact::Sums;
     use oracle::random::Random;
     use oracle::replayed::Replayed;
-    use oracle::{cases, inverse_cases, replayed_calls, replayed_functions, replayed_jobs};
+    use oracle::{cases, inverse_cases};
+    use oracle::{replayed_calls, replayed_extremes, replayed_functions, replayed_jobs};
     use std::collections::BTreeMap;
     use std::fs;
     use std::path::Path;
@@ -136,6 +137,7 @@ mod sample {
         all.extend(of_paths());
         all.extend(of_functions(sums));
         all.push(of_writer());
+        all.extend(of_extremes());
         all
     }
 
@@ -227,6 +229,21 @@ mod sample {
             Entry::new("arccosine", 100, &[&[17]], |random| {
                 replayed_functions::of_arccosine(sums, random)
             }),
+        ]
+    }
+
+    fn of_extremes<'a>() -> Vec<Entry<'a>> {
+        let refusals: [&[u32]; 1] = [&[16, 17, 20]];
+        vec![
+            Entry::new("build_extremes", 60, &refusals, replayed_extremes::of_build).longer(6),
+            Entry::new(
+                "replace_joints",
+                60,
+                &refusals,
+                replayed_extremes::of_replace,
+            )
+            .longer(6),
+            Entry::new("first_above", 60, &refusals, replayed_extremes::of_ask).longer(6),
         ]
     }
 

@@ -1,8 +1,9 @@
 //! Times what was proved beside what was not, in one run: `bench`. Prints Markdown; `bench --svg FILE` also draws the times as a
-//! picture. All but the floats and the four functions needs the Rust that is compared.
+//! picture. All but the floats, the four functions and the extremes needs the Rust that is compared.
 
 #[cfg_attr(not(original), path = "left_out.rs")]
 mod beside_rust;
+mod extremes;
 mod floats;
 mod jobs;
 mod picture;
@@ -38,7 +39,7 @@ fn main() {
 
 /// Shown too.
 fn timed() -> (Vec<Section>, Vec<Row>) {
-    let mut sections = vec![floats::section(), waves::section()];
+    let mut sections = vec![floats::section(), waves::section(), extremes::section()];
     for section in &sections {
         show(&section.table());
     }

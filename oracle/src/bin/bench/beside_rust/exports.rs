@@ -37,7 +37,7 @@ pub struct Given {
 /// With its name.
 type Export = (&'static str, fn(&mut Given) -> u32);
 
-pub const EXPORTS: [Export; 21] = [
+pub const EXPORTS: [Export; 24] = [
     ("sine", |g| maztubel::maztubel_sine(0.5, &mut g.numbers[0])),
     ("cosine", |g| {
         maztubel::maztubel_cosine(0.5, &mut g.numbers[0])
@@ -131,6 +131,17 @@ pub const EXPORTS: [Export; 21] = [
     }),
     ("cable_number", |g| {
         maztubel::cable_number(&g.chain, &JOINTS, 0, &mut g.count, &mut g.at, &mut g.letter)
+    }),
+    ("build_extremes", |g| {
+        maztubel::build_extremes(&JOINTS, &mut g.numbers[..10])
+    }),
+    ("replace_joints", |g| {
+        let (joints, summary) = g.numbers.split_at_mut(5);
+        maztubel::replace_joints(joints, &mut summary[..10], 0, &JOINTS)
+    }),
+    ("first_above", |g| {
+        let summary = &g.numbers[..10];
+        maztubel::first_above(&JOINTS, summary, 1, 1.0, &mut g.count, &mut g.at)
     }),
 ];
 

@@ -1,0 +1,9 @@
+pub mod Comparing
+pub mod Groups
+pub mod Checks
+pub mod Testing
+pub mod Building
+pub mod Afresh
+pub mod Skipping
+pub mod Searching
+pub mod Answers
