@@ -1,4 +1,5 @@
--- totalOrder and the comparison of floats: what one says of the other, of two numbers and of the smaller and the larger of them.
+-- totalOrder and the comparison of floats: what one says of the other, of two numbers and of the smaller and the
+-- larger of them.
 use mathlib.Core.Path.{_≡_, refl, sym, _∙_}
 use mathlib.Core.Bool.{Bool, true, false, cond, not, _&&_, _||_, false≢true, true≢false}
 use lib.Ieee.{Float, nan, inf, fin, lt, le, eq, isNan}

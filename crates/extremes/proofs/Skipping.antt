@@ -1,5 +1,5 @@
--- That a group that is skipped cannot change the answer, whatever its joint sets hold; and that of a summary that is theirs
--- nothing is missed.
+-- That a group that is skipped cannot change the answer, whatever its joint sets hold; and that of a summary that is
+-- theirs nothing is missed.
 use Prim.Native.Nat.{ℕ, zero, suc, _+_, _-_, _*_, _/_, _%_, _≤_, _<_}
 use native.Mathlib.Nat.{le-of-suc-le-suc}
 use native.Mathlib.Omega.{arith}

@@ -1,5 +1,5 @@
--- Whether a path comes near a stop: the first joint set with an angle of a rotary above a given one, among the groups whose
--- largest is above.
+-- Whether a path comes near a stop: the first joint set with an angle of a rotary above a given one, among the groups
+-- whose largest is above.
 use mathlib.Core.Bool.{Bool, cond, _&&_}
 use mathlib.Core.List.{List}
 use Prim.Native.Nat.{ℕ, zero, suc, _+_, _-_, _*_, _/_}

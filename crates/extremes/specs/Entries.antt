@@ -68,7 +68,8 @@ abbrev pub AsRead : (joints summary : List Float) → ℕ → Float → Asked �
 AsRead joints summary rotary angle answer =
     all jointsFinite (setsIn joints) ≡ true → summary ≡ summaryOf (setsIn joints) → answer ≡ readingOf joints summary rotary angle
 
--- "skips groups whose largest is not above, whose joints then cannot change its answer": for every summary and all joints, also those that are not finite
+-- "skips groups whose largest is not above, whose joints then cannot change its answer": for every summary and all
+-- joints, also those that are not finite
 abbrev pub SameOpened : (joints other summary : List Float) → ℕ → Float → Type 0
 SameOpened joints other summary rotary angle =
     (i : ℕ) → i < length joints / 5 → opened rotary angle summary (i / 64) ≡ true → jointsIn joints (i * 5) ≡ jointsIn other (i * 5)

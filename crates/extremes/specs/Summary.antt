@@ -1,5 +1,5 @@
--- The summary beside a path: for every 64 joint sets, the last group maybe fewer, the smallest and the largest of each of the five
--- numbers by totalOrder. A group has ten numbers, the smallest five first.
+-- The summary beside a path: for every 64 joint sets, the last group maybe fewer, the smallest and the largest of each
+-- of the five numbers by totalOrder. A group has ten numbers, the smallest five first.
 use mathlib.Core.Bool.{cond}
 use mathlib.Core.List.{List, [], _∷_, _++_, map}
 use Prim.Native.Nat.{ℕ, _+_, _*_, _/_}

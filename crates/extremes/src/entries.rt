@@ -1,5 +1,5 @@
-// The three calls over lent numbers. Each answers every argument, and its contract says what is lent afterwards; a refusal changes
-// nothing.
+// The three calls over lent numbers. Each answers every argument, and its contract says what is lent afterwards; a
+// refusal changes nothing.
 ghost use mathlib.Core.Path.{_≡_};
 ghost use lib.ListN.{length};
 ghost use Rattle.extremes.specs.Checking as C;

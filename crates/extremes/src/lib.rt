@@ -1,5 +1,6 @@
-// Extremes beside a path: for every 64 joint sets the smallest and the largest of each of the five numbers, by totalOrder. They are
-// built, kept right when one joint set is replaced, and asked which joint set is the first with an angle above a given one.
+// Extremes beside a path: for every 64 joint sets the smallest and the largest of each of the five numbers, by
+// totalOrder. They are built, kept right when one joint set is replaced, and asked which joint set is the first with
+// an angle above a given one.
 mod asking;
 mod checking;
 mod entries;
