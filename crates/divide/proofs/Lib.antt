@@ -15,6 +15,7 @@ pub mod Again
 pub mod Later
 pub mod Subdivides
 pub mod BothCalls
+pub mod PriceFields
 pub mod Parallel
 pub mod Examples
 pub mod NeverFallback
