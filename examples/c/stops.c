@@ -1,7 +1,8 @@
-/* How near a path comes to its stops: builds the extremes beside the joints of a path on which the table A, with stops at -120 and
- * 120 degrees, tilts up to 119 and back, and asks where it is first within 10, 5, 2 and 1 degrees of its upper stop. Then the joint
- * set that comes nearest is turned back, and the same is asked again: only its group is worked out anew. The least and the largest
- * angle of the whole path are those of the summary. C11, no libraries but this one. */
+/* How near a path comes to its stops: builds the extremes beside the joints of a path on which the table A, with stops
+ * at -120 and 120 degrees, tilts up to 119 and back, and asks where it is first within 10, 5, 2 and 1 degrees of its
+ * upper stop. Then the joint set that comes nearest is turned back, and the same is asked again: only its group is
+ * worked out anew. The least and the largest angle of the whole path are those of the summary. C11, no libraries but
+ * this one. */
 #include "maztubel.h"
 
 #include <inttypes.h>

@@ -1,5 +1,6 @@
-//! The extremes beside a path: what document 02 says that the three calls must answer, and the calls themselves, each on numbers that
-//! stand between guards. Nothing here is taken from the proved code: groups are cut, sorted and read as the document's words have it.
+//! The extremes beside a path: what document 02 says that the three calls must answer, and the calls themselves, each
+//! on numbers that stand between guards. Nothing here is taken from the proved code: groups are cut, sorted and read as
+//! the document's words have it.
 
 use crate::floats::same;
 use crate::joints::{MOST_ANGLE, MOST_POSITION};

@@ -1,4 +1,5 @@
-//! What comes of building extremes, of replacing joint sets and of asking: how often each answer was met, and the differences.
+//! What comes of building extremes, of replacing joint sets and of asking: how often each answer was met, and the
+//! differences.
 
 use crate::angles::{moved, signed, within};
 use crate::extremes::{
@@ -20,6 +21,18 @@ const LONG: usize = 110_000;
 
 /// How many joint sets there are, beside any number up to 200.
 const COUNTS: [usize; 12] = [0, 1, 2, 5, 62, 63, 64, 65, 127, 128, 129, 192];
+
+/// With so many joint sets each entry must be served, but that in none nothing is replaced.
+const SERVED: [usize; 9] = [0, 1, 63, 64, 65, 127, 128, 129, LONG];
+
+/// What must be met of zeros. As extremes -0.0 stands before +0.0, and as angles they are equal.
+const ZEROS: [&str; 5] = [
+    "build_extremes, -0.0 the smallest beside +0.0",
+    "build_extremes, +0.0 the largest beside -0.0",
+    "first_above, of +0.0",
+    "first_above, of -0.0",
+    "first_above, of a zero, a largest the other zero",
+];
 
 #[derive(Default)]
 pub struct Extremes {
@@ -87,7 +100,6 @@ impl Extremes {
                 self.ask(&beside, rotary, angle);
             }
         }
-        self.met.count("110,000 joint sets");
     }
 
     /// Damaged half of the time.
@@ -176,7 +188,8 @@ impl Extremes {
         self.replace(&mut beside, index, &fresh);
     }
 
-    /// The first group's largest is forged, and what is asked is the largest itself: the search goes on behind the group.
+    /// The first group's largest is forged, and what is asked is the largest itself: the search goes on behind the
+    /// group.
     fn opened_in_vain(&mut self, random: &mut Random) {
         let sets = GROUP + 1 + random.below(130) as usize;
         let mut beside = Beside::own(path(sets, random));
@@ -215,6 +228,12 @@ impl Extremes {
         self.calls[0] += 1;
         self.met
             .count(number("build_extremes", expected.as_ref().err()));
+        if let Ok(summary) = &expected {
+            self.count_served("build_extremes", joints);
+            let [smallest, largest] = zero_extremes(joints, summary);
+            self.met.count_if(ZEROS[0], smallest);
+            self.met.count_if(ZEROS[1], largest);
+        }
         let held = build_holds(joints, lent, &expected);
         self.differ(!held, || {
             format!(
@@ -240,6 +259,7 @@ impl Extremes {
             )
         });
         if let Ok([joints, summary]) = expected {
+            self.count_served("replace_joints", &joints);
             self.met.count_if(
                 "replace_joints, an extreme taken away",
                 shrank(beside, &summary),
@@ -264,6 +284,10 @@ impl Extremes {
             Ok(found) => found_words(beside, *found, rotary as usize, angle),
             Err(refusal) => number("first_above", Some(refusal)),
         });
+        if expected.is_ok() {
+            self.count_served("first_above", &beside.joints);
+            self.count_zero(beside, rotary as usize, angle);
+        }
         let held = ask_holds(beside.both(), rotary, angle, &expected);
         self.hold(
             held,
@@ -271,6 +295,25 @@ impl Extremes {
             beside,
             angle,
         );
+    }
+
+    fn count_served(&mut self, entry: &str, joints: &[f64]) {
+        let sets = joints.len() / SET;
+        if SERVED.contains(&sets) {
+            self.met.count(with_sets(entry, sets));
+        }
+    }
+
+    /// An angle of zero, and whether the largest of a group is the zero of the other sign.
+    fn count_zero(&mut self, beside: &Beside, rotary: usize, angle: f64) {
+        if angle != 0.0 {
+            return;
+        }
+        let negative = angle.is_sign_negative();
+        self.met.count(ZEROS[2 + usize::from(negative)]);
+        let mut largest = beside.summary.chunks(TEN).map(|ten| ten[SET + 3 + rotary]);
+        let other = largest.any(|x| x == 0.0 && x.is_sign_negative() != negative);
+        self.met.count_if(ZEROS[4], other);
     }
 
     fn hold(&mut self, held: bool, words: &str, beside: &Beside, angle: f64) {
@@ -297,11 +340,8 @@ impl Extremes {
             println!("{entry:48} {calls:12}");
         }
         let rare = self.met.print(ways().into_iter().map(|way| {
-            let fewest = if way == "110,000 joint sets" {
-                1
-            } else {
-                fewest
-            };
+            let long = way.ends_with(&format!(" {LONG} joint sets"));
+            let fewest = if long { 1 } else { fewest };
             (way, fewest)
         }));
         let differs = self.differences.print("extremes");
@@ -340,9 +380,34 @@ fn ways() -> Vec<String> {
         "first_above, none, at the largest itself",
         "first_above, a skipped group overwritten",
         "replace_joints, an extreme taken away",
-        "110,000 joint sets",
     ];
-    numbers.chain(words.map(String::from)).collect()
+    let lengths = ENTRIES.iter().flat_map(|entry| {
+        let none = usize::from(*entry == "replace_joints");
+        SERVED[none..].iter().map(|sets| with_sets(entry, *sets))
+    });
+    let words = words.into_iter().chain(ZEROS).map(String::from);
+    numbers.chain(words).chain(lengths).collect()
+}
+
+fn with_sets(entry: &str, sets: usize) -> String {
+    format!("{entry}, served, {sets} joint sets")
+}
+
+/// Whether -0.0 is the smallest of a number of which a group has +0.0 too; and whether +0.0 is the largest beside -0.0.
+fn zero_extremes(joints: &[f64], summary: &[f64]) -> [bool; 2] {
+    let groups = || joints.chunks(GROUP * SET).zip(summary.chunks(TEN));
+    let is = |x: f64, zero: f64| x.to_bits() == zero.to_bits();
+    let has = |group: &[f64], slot: usize, zero: f64| {
+        let mut numbers = group.iter().skip(slot).step_by(SET);
+        numbers.any(|x| is(*x, zero))
+    };
+    let smallest = |(group, ten): (&[f64], &[f64])| {
+        (0..SET).any(|slot| is(ten[slot], -0.0) && has(group, slot, 0.0))
+    };
+    let largest = |(group, ten): (&[f64], &[f64])| {
+        (0..SET).any(|slot| is(ten[SET + slot], 0.0) && has(group, slot, -0.0))
+    };
+    [groups().any(smallest), groups().any(largest)]
 }
 
 fn number(entry: &str, refusal: Option<&u32>) -> String {
@@ -394,7 +459,8 @@ fn off(length: usize, random: &mut Random) -> usize {
     }
 }
 
-/// So many joint sets that are served. Half of the paths have few different numbers, so that extremes are met more than once.
+/// So many joint sets that are served. Half of the paths have few different numbers, so that extremes are met more than
+/// once.
 fn path(sets: usize, random: &mut Random) -> Vec<f64> {
     if random.below(2) == 0 {
         return (0..sets).flat_map(|_| sound_set(random)).collect();
@@ -493,5 +559,17 @@ mod tests {
         assert!(!ask_holds(beside.both(), 0, 4.0, &Ok(Some(0))));
         assert!(!ask_holds(beside.both(), 0, 3.0, &Ok(None)));
         assert!(!ask_holds(beside.both(), 0, 3.0, &Err(20)));
+    }
+
+    /// A zero stands beside the other one only in a group that has both.
+    #[test]
+    fn zeros_beside_each_other() {
+        let met = |x: f64, y: f64| {
+            let joints = [x, 1.0, 1.0, 1.0, 1.0, y, 1.0, 1.0, 1.0, 1.0];
+            zero_extremes(&joints, &summary(&joints))
+        };
+        assert_eq!(met(0.0, -0.0), [true, true]);
+        assert_eq!(met(0.0, 0.0), [false, false]);
+        assert_eq!(met(-0.0, 1.0), [false, false]);
     }
 }

@@ -1,6 +1,6 @@
-//! What comes of dividing paths: how often each answer was met, on each type of machine and with each kind of space, the differences
-//! from what is expected, and how far the answers lie from those that the Rust gives with libm. Every division that is served is also
-//! divided with looser tolerances, and its result once more.
+//! What comes of dividing paths: how often each answer was met, on each type of machine and with each kind of space,
+//! the differences from what is expected, and how far the answers lie from those that the Rust gives with libm. Every
+//! division that is served is also divided with looser tolerances, and its result once more.
 
 use crate::divided::{Answer, Divided, MOST_INSERTED, Told, Verdict, ask, expected, telling};
 use crate::divided_with_libm::WithLibm;

@@ -10,7 +10,8 @@ use job::{Breach, Job, POSE as POSE_BYTES};
 /// What the reader of tools/job says.
 pub type Read = Result<Job, Breach>;
 
-/// The definition's one nan, as its `toBits` writes it. It has no sign and no digits, so that any nan may stand for it in memory.
+/// The definition's one nan, as its `toBits` writes it. It has no sign and no digits, so that any nan may stand for it
+/// in memory.
 const ONE_NAN: u64 = 0x7FF8_0000_0000_0000;
 
 /// The bits of a number that was read.

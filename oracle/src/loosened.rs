@@ -1,6 +1,6 @@
-//! R-12's two promises, held to what the exports answer. With both tolerances finite and equal or larger a division that was
-//! accepted is accepted, inserts no more, and inserts only what was inserted before, in the same order. And a divided path that is
-//! divided again under its own tolerances comes back the same, with nothing inserted.
+//! R-12's two promises, held to what the exports answer. With both tolerances finite and equal or larger a division
+//! that was accepted is accepted, inserts no more, and inserts only what was inserted before, in the same order. And a
+//! divided path that is divided again under its own tolerances comes back the same, with nothing inserted.
 
 use crate::calls::GUARD;
 use crate::divided::{Divided, Told, ask, telling};
@@ -86,8 +86,8 @@ fn records_left(told: &Told, rooms: Rooms, count: usize) -> Vec<Record> {
     records(poses.take(count), joints.take(count))
 }
 
-/// The records that were not given, if all that were given stand among them in order. Between two given poses none is the second:
-/// a midpoint with its joints is not inserted.
+/// The records that were not given, if all that were given stand among them in order. Between two given poses none is
+/// the second: a midpoint with its joints is not inserted.
 fn inserted(records: &[Record], given: &[Record]) -> Option<Vec<Record>> {
     let mut given = given.iter().peekable();
     let mut inserted = records.to_vec();
@@ -125,7 +125,8 @@ pub fn ask_looser(division: &Division, divided: &Divided, which: usize, how: usi
     ask(&loosened(division, which, how), rooms(divided))
 }
 
-/// A divided path with the same tolerances, where it may be divided again: at most 100,000 poses with tips within 100,000 mm.
+/// A divided path with the same tolerances, where it may be divided again: at most 100,000 poses with tips within
+/// 100,000 mm.
 pub fn repeated(division: &Division, divided: &Divided) -> Option<Division> {
     let mut tips = divided.poses.chunks(POSE).flat_map(|pose| &pose[..3]);
     let few = divided.poses.len() / POSE <= MOST_POSES;

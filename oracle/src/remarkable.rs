@@ -100,8 +100,8 @@ fn turned(degrees: f64) -> Division {
     alone(chain(TABLE, 0.0), &still, &joints, [0.5, 0.5])
 }
 
-/// A quarter turn of a table across the spindle, held to a millionth of a micrometre: it needs more insertions than may be. Solved
-/// first, and given its joints.
+/// A quarter turn of a table across the spindle, held to a millionth of a micrometre: it needs more insertions than may
+/// be. Solved first, and given its joints.
 pub fn too_many() -> [Division; 2] {
     let table = Rotary {
         letter: b'B',

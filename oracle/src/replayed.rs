@@ -11,8 +11,8 @@ pub const FILLED_COUNT: u64 = 7;
 const MOST_BYTES: usize = 65_600;
 const MOST_NUMBERS: usize = 128;
 
-/// How many numbers a case is lent at most, that lines stay short; and with 27, which wants space for 10,000 poses more than the two
-/// that are given, as many as the program has. They are +0.0 then, and a line counts them.
+/// How many numbers a case is lent at most, that lines stay short; and with 27, which wants space for 10,000 poses more
+/// than the two that are given, as many as the program has. They are +0.0 then, and a line counts them.
 const MOST_ROOMS: [usize; 2] = [256, 128];
 const ROOMS_OF_27: [usize; 2] = [60_012, 50_010];
 

@@ -156,8 +156,8 @@ pub fn of_too_many(entry: &str) -> Option<Replayed> {
     )
 }
 
-/// so many divisions of given joints, each followed by a looser one with the same space and by its own result, divided again.
-/// Every way to loosen comes in turn.
+/// so many divisions of given joints, each followed by a looser one with the same space and by its own result,
+/// divided again. Every way to loosen comes in turn.
 pub fn of_later(count: usize, random: &mut Random) -> Vec<Replayed> {
     let mut cases = Vec::new();
     for i in 0..count {

@@ -161,7 +161,9 @@ impl Soak {
             writes,
             extremes,
         } = self;
-        [waves, chains, inverses, paths, divisions, jobs, writes, extremes]
+        [
+            waves, chains, inverses, paths, divisions, jobs, writes, extremes,
+        ]
     }
 
     fn calls(&self) -> Vec<(&'static str, u64)> {

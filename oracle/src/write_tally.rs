@@ -20,7 +20,7 @@ const AGAIN: usize = 2;
 const GAPS: usize = 3;
 
 /// What a call can answer.
-const SERVED: [&str; 11] = [
+const SERVED: [&str; 14] = [
     "served",
     "served, no poses",
     "served, just room",
@@ -32,8 +32,11 @@ const SERVED: [&str; 11] = [
     "served, a subnormal number",
     "served, an axis of zero",
     "served, the most poses",
+    "served, the largest limits",
+    "served, limits a double apart",
+    "served, limits of -0.0 and a subnormal number",
 ];
-const REFUSED: [&str; 19] = [
+const REFUSED: [&str; 20] = [
     "20",
     "29",
     "3",
@@ -53,6 +56,7 @@ const REFUSED: [&str; 19] = [
     "17, the length",
     "28",
     "28, a byte short",
+    "8, equal limits",
 ];
 
 #[derive(Default)]
@@ -219,6 +223,10 @@ fn served(case: &Case, length: usize) -> [bool; SERVED.len()] {
     let more = case.room - length;
     let tips = || case.poses.chunks(POSE).flat_map(|pose| &pose[..3]);
     let zero = |pose: &[f64]| pose[3..].iter().all(|x| *x == 0.0);
+    let limits = |test: fn([f64; 2]) -> bool| {
+        let mut limited = chain.present().filter(|rotary| rotary.limited == 1);
+        limited.any(|rotary| test(rotary.limits))
+    };
     [
         true,
         case.poses.is_empty(),
@@ -226,11 +234,14 @@ fn served(case: &Case, length: usize) -> [bool; SERVED.len()] {
         more == 1,
         more > 1,
         chain.count == 2,
-        chain.present().any(|rotary| rotary.limited == 1),
+        limits(|_| true),
         tips().any(|x| x.to_bits() == (-0.0f64).to_bits()),
         case.poses.iter().any(|x| x.is_subnormal()),
         case.poses.chunks(POSE).any(zero),
         case.poses.len() == POSE * most_poses(&case.chain),
+        limits(|limits| limits == [-f64::MAX, f64::MAX]),
+        limits(|[least, largest]| largest == least.next_up()),
+        limits(|[least, largest]| least.to_bits() == 1 << 63 && largest.is_subnormal()),
     ]
 }
 
@@ -244,6 +255,7 @@ fn refused(case: &Case, number: u32) -> Vec<&'static str> {
         tips.any(|x| test(*x))
     };
     match number {
+        8 if equal_limits(&case.chain) => vec![REFUSED[7], REFUSED[19]],
         19 => {
             let chord = case.numbers[1];
             let chord = !(chord.is_finite() && chord > 0.0);
@@ -263,6 +275,15 @@ fn refused(case: &Case, number: u32) -> Vec<&'static str> {
         28 if case.room + 1 == case.length() => vec![REFUSED[17], REFUSED[18]],
         number => vec![words(number).expect("a number that a writer refuses with")],
     }
+}
+
+/// Whether the first limits that are refused are equal.
+fn equal_limits(chain: &[u8]) -> bool {
+    let chain = reading::chain(chain).expect("a chain that has limits");
+    let good = |limits: [f64; 2]| limits.iter().all(|x| x.is_finite()) && limits[0] < limits[1];
+    let mut limited = chain.present().filter(|rotary| rotary.limited == 1);
+    let first = limited.find(|rotary| !good(rotary.limits));
+    first.is_some_and(|rotary| rotary.limits[0] == rotary.limits[1])
 }
 
 #[cfg(test)]

@@ -405,7 +405,8 @@ static void bits(const Build builds[2]) {
     printf("sine, cosine and their pair: %d random arguments, %zu differ\n", 3 * RANDOM_BITS, differ);
 }
 
-/* FOLDER FIRST SECOND: the two sides in the order in which they are opened. With a fourth word no functions and no bits. */
+/* FOLDER FIRST SECOND: the two sides in the order in which they are opened. With a fourth word no functions and no
+ * bits. */
 int main(int count, char **words) {
     static Input in;
     if (count < 4) return fprintf(stderr, "beside FOLDER FIRST SECOND: use tools/beside/run\n"), 2;

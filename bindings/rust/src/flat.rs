@@ -650,8 +650,8 @@ pub fn cable_number(chain: &[u8], joints: &[f64], rotary: u64, number: &mut u64)
     told
 }
 
-/// The summary of joint sets, 5 numbers each: for every 64 of them the smallest of each number, then the largest of each, by
-/// totalOrder. A refusal keeps it.
+/// The summary of joint sets, 5 numbers each: for every 64 of them the smallest of each number, then the largest of
+/// each, by totalOrder. A refusal keeps it.
 ///
 /// ```
 /// use maztubel::flat;
@@ -675,7 +675,8 @@ pub fn build_extremes(joints: &[f64], summary: &mut [f64]) -> Told {
     }
 }
 
-/// Replaces the joint set with this index by five numbers, and works its group of the summary out afresh. A refusal keeps both.
+/// Replaces the joint set with this index by five numbers, and works its group of the summary out afresh. A refusal
+/// keeps both.
 ///
 /// ```
 /// use maztubel::flat;
@@ -702,8 +703,8 @@ pub fn replace_joints(joints: &mut [f64], summary: &mut [f64], index: u64, fresh
     }
 }
 
-/// Whether a joint set has an angle of the rotary, 0 or 1, above the given one: 1 and the index of the first, or 0 and 0. A refusal
-/// keeps both numbers.
+/// Whether a joint set has an angle of the rotary, 0 or 1, above the given one: 1 and the index of the first, or 0 and
+/// 0. A refusal keeps both numbers.
 ///
 /// ```
 /// use maztubel::flat;

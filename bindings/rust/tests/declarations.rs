@@ -1,5 +1,6 @@
-//! That include/maztubel.h and src/raw.rs declare what crates/maztubel exports and nothing else: each function by its name, its
-//! parameters in order with their names and types, and the type that it returns. A linker compares none of this.
+//! That include/maztubel.h and src/raw.rs declare what crates/maztubel exports and nothing else: each function by its
+//! name, its parameters in order with their names and types, and the type that it returns. A linker compares none of
+//! this.
 
 use std::collections::BTreeMap;
 use std::fs;
@@ -115,8 +116,8 @@ fn c_parameters(text: &str) -> Vec<(String, String)> {
     }
 }
 
-/// The functions whose signatures stand behind `mark`, with the name first; the type that is returned ends at a space, a line's end
-/// or a semicolon.
+/// The functions whose signatures stand behind `mark`, with the name first; the type that is returned ends at a space,
+/// a line's end or a semicolon.
 fn behind_mark(text: &str, mark: &str, all: &mut Signatures) {
     for piece in text.split(mark).skip(1) {
         let (name, behind) = cut(piece, "(");
@@ -191,8 +192,9 @@ fn raw_declares_the_exports() {
     assert_eq!(declared_for_rust(&raw), exported(&sources()));
 }
 
-/// A text of the header and what a fault would make of it: a parameter dropped, two of one type swapped, another type, another
-/// order, a length that is missing, a constant buffer that is not, another answer, a function that is not exported, and one missing.
+/// A text of the header and what a fault would make of it: a parameter dropped, two of one type swapped, another type,
+/// another order, a length that is missing, a constant buffer that is not, another answer, a function that is not
+/// exported, and one missing.
 const FAULTS: [(&str, &str); 9] = [
     (
         "maztubel_sine(double x, double *answer)",
@@ -233,7 +235,8 @@ fn a_fault_of_the_header_is_seen() {
     }
 }
 
-/// The same in an export: a parameter dropped, two swapped, another type, a slice that may be written, and another answer.
+/// The same in an export: a parameter dropped, two swapped, another type, a slice that may be written, and another
+/// answer.
 const CHANGES: [(&str, &str); 5] = [
     (
         "fn maztubel_cosine(x: f64, answer: &mut f64)",

@@ -1,5 +1,5 @@
-//! The extremes beside a path: what document 02 says of ties, zeros, empty and long paths, of rows of replacements, and of what a
-//! refusal keeps; and that no group but its own is touched, in memory with walls.
+//! The extremes beside a path: what document 02 says of ties, zeros, empty and long paths, of rows of replacements, and
+//! of what a refusal keeps; and that no group but its own is touched, in memory with walls.
 
 mod common;
 
@@ -142,7 +142,8 @@ fn skipped_groups() {
     assert_eq!((told.number, found, index), (0, 0, 0));
 }
 
-/// Three groups against a wall at either end, each call as without one; a replacement writes ten numbers of the summary.
+/// Three groups against a wall at either end, each call as without one; a replacement writes ten numbers of the
+/// summary.
 #[test]
 fn against_walls() {
     let joints = numbers((0..129).map(f64::from));

@@ -485,8 +485,38 @@ fn space_for_a_job() {
     refused(longest(1363).unwrap_err(), 29, Place::Offset(0));
 }
 
-/// What a job is refused with when it is written, from the last check to the first, each with every later fault too. 30
-/// is not among them.
+type Fault = (u32, Place, fn(&mut Job));
+
+/// What a job is refused with when it is written and how it comes to that, from the last check to the first. 30 is not
+/// among them.
+const FAULTS: [Fault; 12] = [
+    (17, Place::Whole, |job| job.poses[2].tip[1] = -100_000.1),
+    (16, Place::Whole, |job| job.poses[1].axis[2] = f64::NAN),
+    (19, Place::Whole, |job| job.tolerances.axis = 0.0),
+    (19, Place::Whole, |job| job.tolerances.chord = f64::INFINITY),
+    (18, Place::Whole, |job| job.cone = 10.000000000000002),
+    (9, Place::Whole, |job| job.chain.spindle = [0.0; 3]),
+    (8, Place::Rotary(1), |job| {
+        job.chain.rotaries[1].limits = Some(Limits { min: 1.0, max: 1.0 })
+    }),
+    (6, Place::Rotary(1), |job| {
+        job.chain.rotaries[1].pivot[0] = f64::NAN
+    }),
+    (7, Place::Rotary(1), |job| {
+        job.chain.rotaries[1].axis = [0.0; 3]
+    }),
+    (5, Place::Rotary(1), |job| {
+        job.chain.rotaries[1].letter = b'A'
+    }),
+    (4, Place::Rotary(1), |job| {
+        job.chain.rotaries[1].letter = b'a'
+    }),
+    (3, Place::Whole, |job| {
+        job.chain.rotaries.push(job.chain.rotaries[0])
+    }),
+];
+
+/// Each fault with every later one.
 #[test]
 fn written_jobs() {
     let mut job = Job {
@@ -504,34 +534,7 @@ fn written_jobs() {
     };
     refuse(&job, 28, Place::Inserted(0), 176 + 3 * 48 + 39);
     assert_eq!(job.to_bytes().unwrap().len(), 176 + 3 * 48 + 40);
-    type Fault = (u32, Place, fn(&mut Job));
-    let faults: [Fault; 12] = [
-        (17, Place::Whole, |job| job.poses[2].tip[1] = -100_000.1),
-        (16, Place::Whole, |job| job.poses[1].axis[2] = f64::NAN),
-        (19, Place::Whole, |job| job.tolerances.axis = 0.0),
-        (19, Place::Whole, |job| job.tolerances.chord = f64::INFINITY),
-        (18, Place::Whole, |job| job.cone = 10.000000000000002),
-        (9, Place::Whole, |job| job.chain.spindle = [0.0; 3]),
-        (8, Place::Rotary(1), |job| {
-            job.chain.rotaries[1].limits = Some(Limits { min: 1.0, max: 1.0 })
-        }),
-        (6, Place::Rotary(1), |job| {
-            job.chain.rotaries[1].pivot[0] = f64::NAN
-        }),
-        (7, Place::Rotary(1), |job| {
-            job.chain.rotaries[1].axis = [0.0; 3]
-        }),
-        (5, Place::Rotary(1), |job| {
-            job.chain.rotaries[1].letter = b'A'
-        }),
-        (4, Place::Rotary(1), |job| {
-            job.chain.rotaries[1].letter = b'a'
-        }),
-        (3, Place::Whole, |job| {
-            job.chain.rotaries.push(job.chain.rotaries[0])
-        }),
-    ];
-    for (number, place, fault) in faults {
+    for (number, place, fault) in FAULTS {
         fault(&mut job);
         refuse(&job, number, place, 100);
         refused(job.to_bytes().unwrap_err(), number, place);

@@ -1,6 +1,5 @@
 -- After any row of calls on joints and their own summary the extremes are those worked out afresh.
 use Prim.Native.Nat.{ℕ, zero, suc, _+_, _-_, _*_, _/_, _≤_, _<_}
-use native.Mathlib.Numerals.{towards-suc}
 use native.Mathlib.Omega.{arith}
 use mathlib.Core.Path.{_≡_, refl, sym, ap, _∙_}
 use mathlib.Core.Bool.{Bool, true, false}
@@ -19,6 +18,7 @@ use Rattle.chain.specs.declared.Checked.{Checked}
 use Rattle.chain.specs.declared.Checked.the-variants as Checked
 use Rattle.chain.specs.declared.Joints.{Joints}
 use Rattle.path.specs.Solving.{jointNumbers, jointsOver}
+use Rattle.path.proofs.Walking.{joints-sets}
 use Rattle.turn.specs.Items.{jointsFrom, jointsIn}
 use Rattle.turn.proofs.Stored.{joints-codec}
 use Rattle.extremes.specs.Summary.{setsIn, extremesOf, groupCount, groups, extremesNumbers, extremesOver, summaryOf, groupAt, resummed}
@@ -95,10 +95,6 @@ summary-set l i x h =
     ∙ flat-set extremes-codec (map extremesOf (groups l)) (i / 64) (extremesOf (groupAt (set l i x) (i / 64))) p
 
 -- ---- in lent numbers
-joints-sets : (j : Joints) (l : List Float) (b : ℕ) → jointsOver j l b ≡ sets l b (jointNumbers j)
-unfolding jointsOver
-joints-sets j l b = simp towards-suc
-
 pub joints-long : (joints : List Float) (index : ℕ) (fresh : List Float) → length (jointsAfter joints index fresh) ≡ length joints
 unfolding jointsAfter jointsOver
 joints-long joints index fresh = simp length-set

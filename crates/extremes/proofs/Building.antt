@@ -16,7 +16,7 @@ use Rattle.path.specs.Solving.{jointsOver}
 use Rattle.turn.specs.Items.{jointsFrom, jointsIn}
 use Rattle.extremes.specs.declared.Extremes.{Extremes}
 use Rattle.extremes.specs.Summary.{setsIn, level, widened, extremesOf, groupCount, groups, extremesNumbers, extremesFrom, extremesOver, summaryOf, groupAt, resummed}
-use Rattle.extremes.specs.Asking.{groupEnd}
+use Rattle.extremes.specs.AskingSteps.{groupEnd}
 use Rattle.extremes.proofs.Groups.{extremes-codec, sets-length, set-is, extremes-length, extremes-is, starts-before, group-taken}
 
 -- ---- the joint sets from an index up to an end

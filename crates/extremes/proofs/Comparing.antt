@@ -2,14 +2,19 @@
 -- larger of them.
 use mathlib.Core.Path.{_≡_, refl, sym, _∙_}
 use mathlib.Core.Bool.{Bool, true, false, cond, not, _&&_, _||_, false≢true, true≢false}
+use mathlib.Core.Logic.{_⊎_, inl, inr}
 use lib.Ieee.{Float, nan, inf, fin, lt, le, eq, isNan}
 use lib.Ieee.Scale.{finite}
 use Rattle.float.specs.Helpers.{negative}
 use Rattle.float.specs.TotalOrder.{before}
-use Rattle.float.proofs.Order.{eq-le, lt-le, le-left, le-right, lt-le-trans, not-le-lt, lt-not-le}
+use Rattle.float.proofs.Order.{eq-le, lt-le, le-left, le-right, lt-le-trans, le-lt-trans, not-le-lt, lt-not-le}
 use Rattle.extremes.specs.Summary.{lower, upper}
 
 -- ---- of two numbers
+denied : (b : Bool) → not b ≡ true → b ≡ false
+denied true e = absurd (false≢true e)
+denied false e = refl
+
 before-le : (x y : Float) → before x y ≡ true → isNan y ≡ false → le x y ≡ true
 unfolding before
 before-le x y h n = go (lt x y) refl (eq x y) refl (rw n at h)
@@ -38,6 +43,55 @@ less-not-behind x y h = go (before y x) refl
     go : (t : Bool) → before y x ≡ t → t ≡ false
     go false e = refl
     go true e = absurd (true≢false (sym (before-le y x e (le-left x y (lt-le x y h))) ∙ lt-not-le x y h))
+
+-- ---- totalOrder is an order, of all floats
+pub not-before-itself : (x : Float) → before x x ≡ false
+unfolding before
+not-before-itself x = go (isNan x) (lt x x) refl (eq x x) (negative x)
+  where
+    go : (n a : Bool) → lt x x ≡ a → (b s : Bool) → cond n (not n) (a || (b && (s && not s))) ≡ false
+    go true a p b s = refl
+    go false true p b s = absurd (true≢false (sym (lt-le x x p) ∙ lt-not-le x x p))
+    go false false p true true = refl
+    go false false p true false = refl
+    go false false p false s = refl
+
+-- what stands before a number is less, or it is the same value with the sign of a -0.0
+abbrev Ways : Float → Float → Type 0
+Ways x y = (lt x y ≡ true) ⊎ ((eq x y ≡ true) × ((negative x ≡ true) × (negative y ≡ false)))
+
+ways : (x y : Float) → before x y ≡ true → isNan y ≡ false → Ways x y
+unfolding before
+ways x y h n = go (lt x y) refl (eq x y) refl (negative x) refl (negative y) refl (rw n at h)
+  where
+    go : (a : Bool) → lt x y ≡ a → (b : Bool) → eq x y ≡ b → (s : Bool) → negative x ≡ s → (t : Bool) → negative y ≡ t
+        → (a || (b && (s && not t))) ≡ true → Ways x y
+    go true p b q s i t j e = inl p
+    go false p true q true i false j e = inr (q, (i, j))
+    go false p true q true i true j e = absurd (false≢true e)
+    go false p true q false i t j e = absurd (false≢true e)
+    go false p false q s i t j e = absurd (false≢true e)
+
+pub before-trans : (x y z : Float) → before x y ≡ true → before y z ≡ true → before x z ≡ true
+before-trans x y z h l = go (isNan z) refl
+  where
+    number : isNan y ≡ false → isNan x ≡ false
+    number n = le-left x y (before-le x y h n)
+
+    last : isNan z ≡ true → before x z ≡ true
+    last e = unfold before in rw (e, number (not-nan e))
+      where
+        not-nan : isNan z ≡ true → isNan y ≡ false
+        not-nan e = denied (isNan y) (unfold before in rw e at l)
+
+    both : isNan z ≡ false → Ways x y → Ways y z → before x z ≡ true
+    both n (inl p) v = less-before x z (lt-le-trans x y z p (before-le y z l n))
+    both n (inr p) (inl q) = less-before x z (le-lt-trans x y z (eq-le x y (p .0)) q)
+    both n (inr p) (inr q) = absurd (true≢false (sym (q .1 .0) ∙ p .1 .1))
+
+    go : (n : Bool) → isNan z ≡ n → before x z ≡ true
+    go true e = last e
+    go false e = both e (ways x y h (le-left y z (before-le y z l e))) (ways y z l e)
 
 -- ---- the smaller and the larger, where one is less
 pub lower-first : (x y : Float) → lt x y ≡ true → x ≡ lower x y

@@ -15,7 +15,7 @@ use Rattle.chain.specs.declared.Joints.{Joints}
 use Rattle.turn.specs.Items.{jointsFrom, jointsIn}
 use Rattle.extremes.specs.declared.Extremes.{Extremes}
 use Rattle.extremes.specs.Summary.{setsIn, extremesOf, groupCount, groups, extremesNumbers, extremesFrom, summaryOf, groupAt}
-use Rattle.extremes.specs.Asking.{groupEnd}
+use Rattle.extremes.specs.AskingSteps.{groupEnd}
 
 -- ---- ten numbers
 ten : (v l : List Float) → length v ≡ 10 → extremesNumbers (extremesFrom (v ++ l)) ≡ v

@@ -1,5 +1,6 @@
 pub mod Comparing
 pub mod Groups
+pub mod SmallestLargest
 pub mod Checks
 pub mod Testing
 pub mod Building

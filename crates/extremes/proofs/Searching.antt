@@ -9,7 +9,8 @@ use borrow.Author.Tests.{lt-ltb, le-ltb}
 use lib.Dec.{ltb}
 use lib.Ieee.{Float}
 use Rattle.extremes.specs.Summary.{groupCount}
-use Rattle.extremes.specs.Asking.{opened, firstIndex, aboveAt, groupEnd, inGroup, hit, firstAbove}
+use Rattle.extremes.specs.Asking.{opened, firstIndex, aboveAt, hit, firstAbove}
+use Rattle.extremes.specs.AskingSteps.{groupEnd, inGroup}
 use Rattle.extremes.proofs.Groups.{end-is}
 use Rattle.extremes.proofs.Skipping.{same-index}
 

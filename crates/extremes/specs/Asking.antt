@@ -2,8 +2,8 @@
 -- whose largest is above.
 use mathlib.Core.Bool.{Bool, cond, _&&_}
 use mathlib.Core.List.{List}
-use Prim.Native.Nat.{ℕ, zero, suc, _+_, _-_, _*_, _/_}
-use lib.Dec.{ltb, eqb}
+use Prim.Native.Nat.{ℕ, zero, suc, _+_, _*_, _/_}
+use lib.Dec.{eqb}
 use lib.Ieee as Ieee
 use lib.Ieee.{Float}
 use Rattle.chain.specs.declared.Joints.{Joints}
@@ -39,11 +39,3 @@ firstAbove rotary angle summary joints n = firstIndex (hit rotary angle summary 
 -- the same by a full reading, without a summary
 unfoldable pub fullReading : ℕ → Float → List Float → ℕ → ℕ
 fullReading rotary angle joints n = firstIndex (aboveAt rotary angle joints) 0 n
-
--- ---- words of inner functions: the end of the group that begins at an index, and what is found in it
-unfoldable pub groupEnd : ℕ → ℕ → ℕ
-groupEnd from n = cond (ltb (n - from) 64) n (from + 64)
-
-unfoldable pub inGroup : ℕ → Float → List Float → List Float → ℕ → ℕ → ℕ
-inGroup rotary angle summary joints from end =
-    cond (opened rotary angle summary (from / 64)) (firstIndex (aboveAt rotary angle joints) from (end - from)) end

@@ -4,6 +4,7 @@ ghost use mathlib.Core.Path.{_≡_};
 ghost use lib.ListN.{length};
 ghost use Rattle.extremes.specs.Summary.{groupCount};
 ghost use Rattle.extremes.specs.Asking as S;
+ghost use Rattle.extremes.specs.AskingSteps.{inGroup};
 use crate::summing::group_end;
 use chain::Joints;
 
@@ -60,7 +61,7 @@ fn in_group(
     end: usize,
 ) -> usize
     requires { ⌜ ((from ≤ end) × (end * 5 ≤ length (now joints))) × (from / 64 * 10 + 10 ≤ length (now summary)) ⌝ }
-    ensures { λ r. ⌜ r ≡ S.inGroup rotary angle (now (summary .entry)) (now (joints .entry)) from end ⌝ }
+    ensures { λ r. ⌜ r ≡ inGroup rotary angle (now (summary .entry)) (now (joints .entry)) from end ⌝ }
 {
     let g = from / 64;
     if opened(rotary, angle, summary, g) {

@@ -40,7 +40,7 @@ fn ask_good(joints: usize, summary: usize, rotary: usize) -> bool
     false
 }
 
-fn all_finite(joints: &[f64]) -> bool
+pub fn all_finite(joints: &[f64]) -> bool
     ensures { λ r. ⌜ r ≡ all jointsFinite (setsIn (now (joints .entry))) ⌝ }
 {
     let n = joints.len() / 5;
@@ -54,7 +54,7 @@ fn all_finite(joints: &[f64]) -> bool
     true
 }
 
-fn all_within(joints: &[f64]) -> bool
+pub fn all_within(joints: &[f64]) -> bool
     ensures { λ r. ⌜ r ≡ all jointsWithin (setsIn (now (joints .entry))) ⌝ }
 {
     let n = joints.len() / 5;

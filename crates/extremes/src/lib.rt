@@ -7,6 +7,8 @@ mod entries;
 mod summing;
 
 use chain::Joints;
+pub use checking::all_finite;
+pub use checking::all_within;
 pub use entries::ask;
 pub use entries::build;
 pub use entries::replace;

@@ -3,7 +3,7 @@ ghost use Prim.Native.Nat.{_+_, _-_, _*_, _/_, _≤_, _<_};
 ghost use mathlib.Core.Path.{_≡_};
 ghost use lib.ListN.{length, take, drop};
 ghost use Rattle.extremes.specs.Summary as S;
-ghost use Rattle.extremes.specs.Asking.{groupEnd};
+ghost use Rattle.extremes.specs.AskingSteps.{groupEnd};
 use crate::Extremes;
 use chain::Joints;
 use geometry::Vec3;

@@ -1,5 +1,6 @@
-// Divides two neighbouring pairs of a path one after the other, with one record lent for each, and writes what comes of it: how
-// many poses were inserted so far, and the numbers of the poses and of the joint sets in the outputs, with the +0.0 behind them.
+// Divides two neighbouring pairs of a path one after the other, with one record lent for each, and writes what comes of
+// it: how many poses were inserted so far, and the numbers of the poses and of the joint sets in the outputs, with the
+// +0.0 behind them.
 //
 // What it must write, `stdout`, was computed by the Rust with this library's turns. To make it again, in oracle/:
 //     cargo run --release --bin filled > ../crates/filled/stdout

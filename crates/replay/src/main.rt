@@ -50,7 +50,8 @@ fn read_case(bytes: &mut [u8]) -> usize
     n
 }
 
-// What is lent holds 7.25 before the call. There is space for 10,000 poses more than two, with which a division can come to 27.
+// What is lent holds 7.25 before the call. There is space for 10,000 poses more than two, with which a division can
+// come to 27.
 fn replay(case: &[u8]) {
     let mut first = [0.0f64; 128];
     let mut second = [0.0f64; 128];

@@ -3,12 +3,13 @@
 //!
 //!     divisions [SEED] [THOUSANDS]
 //!
-//! on THOUSANDS (300) thousand paths for each of the two, mostly of 0 to 20 poses, each with several spaces; on paths that need
-//! 9,999, 10,000 and 10,001 insertions exactly; on remarkable ones with every space; and on one of 100,000 poses for each, and of a
-//! pose more. Each that is served is divided with looser tolerances too, and its result is divided again. Every answer is
-//! compared: the number, the count, the pose, rotary or offset, the letter, and each lent number bit for
-//! bit. Prints how often each refusal and each kind of path was met, the first differences, and the largest distances from the Rust
-//! with libm. Ends with status 1 where there is a difference, or where something was not met.
+//! on THOUSANDS (300) thousand paths for each of the two, mostly of 0 to 20 poses, each with several spaces; on paths
+//! that need 9,999, 10,000 and 10,001 insertions exactly; on remarkable ones with every space; and on one of 100,000
+//! poses for each, and of a pose more. Each that is served is divided with looser tolerances too, and its result is
+//! divided again. Every answer is compared: the number, the count, the pose, rotary or offset, the letter, and
+//! each lent number bit for bit. Prints how often each refusal and each kind of path was met, the first differences,
+//! and the largest distances from the Rust with libm. Ends with status 1 where there is a difference, or where
+//! something was not met.
 
 use std::process::ExitCode;
 

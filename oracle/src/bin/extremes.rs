@@ -2,11 +2,11 @@
 //!
 //!     extremes [SEED] [THOUSANDS]
 //!
-//! draws THOUSANDS (30) thousand rounds. Each builds a summary, makes a row of replacements that is held to building anew, asks beside
-//! summaries that are the joints' own and beside forged ones, and asks again with every skipped group overwritten. Paths have 0 to 200
-//! joint sets, above all those about a group's end; a few have 110,000. Every answer is compared: the number, and each lent number bit
-//! for bit, guards and inputs too. Prints how often each answer was met, and the first differences. Ends with status 1 where there is a
-//! difference, or where something was not met.
+//! draws THOUSANDS (30) thousand rounds. Each builds a summary, makes a row of replacements that is held to building
+//! anew, asks beside summaries that are the joints' own and beside forged ones, and asks again with every skipped group
+//! overwritten. Paths have 0 to 200 joint sets, above all those about a group's end; a few have 110,000. Every answer
+//! is compared: the number, and each lent number bit for bit, guards and inputs too. Prints how often each answer was
+//! met, and the first differences. Ends with status 1 where there is a difference, or where something was not met.
 
 use oracle::extremes_tally::Extremes;
 use oracle::parts::{Outcome, argument, compared};

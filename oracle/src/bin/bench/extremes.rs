@@ -1,5 +1,5 @@
-//! The extremes beside a path of 100,000 joint sets, beside plain loops in Rust: one that works the same extremes out, and one that
-//! reads every joint set.
+//! The extremes beside a path of 100,000 joint sets, beside plain loops in Rust: one that works the same extremes out,
+//! and one that reads every joint set.
 
 use super::rows::{Row, Section};
 use super::timing::of_both;

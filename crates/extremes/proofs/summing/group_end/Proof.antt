@@ -1,6 +1,6 @@
 use borrow.Author.Tests.{lt-ltb, le-ltb}
 use native.Mathlib.Omega.{arith}
-use Rattle.extremes.specs.Asking.{groupEnd}
+use Rattle.extremes.specs.AskingSteps.{groupEnd}
 use Rattle.extremes.proofs.summing.group_end.Statement.{statement}
 use Rattle.extremes.proofs.summing.group_end.Tie as tie
 
