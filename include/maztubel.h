@@ -67,7 +67,7 @@ enum {
     MAZTUBEL_ROTARY_LETTER = 4,
     /* two rotaries must have different letters */
     MAZTUBEL_LETTER_TWICE = 5,
-    /* a rotary's axis and pivot and the spindle axis must be finite */
+    /* a rotary's axis, pivot and rest angle and the spindle axis must be finite */
     MAZTUBEL_CHAIN_NOT_FINITE = 6,
     /* a rotary's axis must have a direction (a component above 1e-15 in size, a length that does not overflow) */
     MAZTUBEL_ROTARY_AXIS_ZERO = 7,
@@ -92,8 +92,8 @@ enum {
      * written tool axes too */
     MAZTUBEL_NOT_FINITE = 16,
     /* sizes must be at most 100,000 mm (tip, pivot, tool length), 10,000,000 mm (joint position), 36,000 degrees
-     * (angle, hint), 100,000 poses, 65,536 bytes (a job that is written), 800 radians (sine, cosine), 1 (arccosine),
-     * and finite (arctangent) */
+     * (angle, rest angle, hint), 100,000 poses, 65,536 bytes (a job that is written), 800 radians (sine, cosine), 1
+     * (arccosine), and finite (arctangent) */
     MAZTUBEL_TOO_LARGE = 17,
     /* the cone must be finite, above 0 and at most 10 degrees */
     MAZTUBEL_CONE = 18,
@@ -165,15 +165,16 @@ uint32_t maztubel_arccosines(const double *cs, size_t cs_length, double *answers
 
 /* ---- Chains
  *
- * A chain is one or two rotaries and the spindle axis. It is passed as bytes, 104 with one rotary and 176 with two,
- * all numbers as little-endian doubles:
+ * A chain is one or two rotaries and the spindle axis. It is passed as bytes, all numbers as little-endian doubles.
+ * Each rotary is a record of w bytes: 72, or 80 with its rest angle. The length of the chain says which: 104 bytes with
+ * one rotary and 176 with two have no rest angles, 112 and 192 have them. Without them every rest angle is +0.0.
  *
  *   offset     bytes  field
  *   0          1      n, the number of rotaries: 1 or 2
  *   1          7      zero
- *   8          72     the first rotary
- *   80         72     the second rotary, if n is 2
- *   8 + 72 n   24     the spindle axis: the tool axis at head angles of zero, from the tip toward the spindle
+ *   8          w      the first rotary
+ *   8 + w      w      the second rotary, if n is 2
+ *   8 + w n    24     the spindle axis: the tool axis at head angles of zero, from the tip toward the spindle
  *
  * and each rotary, from its own first byte:
  *
@@ -186,6 +187,8 @@ uint32_t maztubel_arccosines(const double *cs, size_t cs_length, double *answers
  *                     head's relative to the gauge point
  *   56         8      the lower limit in degrees, +0.0 if it has none
  *   64         8      the upper limit in degrees, +0.0 if it has none
+ *   72         8      if w is 80: the rest angle in degrees, at which the cable hangs free. Cable turns are counted from
+ *                     it (maztubel_cable_number); nothing else depends on it
  *
  * Of two tables the first stands on the machine's base and carries the second. Of two heads the first hangs on the Z
  * slide and carries the second. A table and a head stand in any order. Axes need not be unit vectors.
@@ -195,7 +198,7 @@ uint32_t maztubel_arccosines(const double *cs, size_t cs_length, double *answers
  * Refusals:
  *   29      the bytes
  *   3 to 9  the chain
- *   17      a number of a pivot is above 100,000 mm in size */
+ *   17      a number of a pivot is above 100,000 mm in size, or a rest angle above 36,000 degrees */
 uint32_t maztubel_check_chain(const uint8_t *chain, size_t chain_length, uint64_t *at, uint8_t *letter);
 
 /* From joints to the pose of the tool.
@@ -212,8 +215,8 @@ uint32_t maztubel_check_chain(const uint8_t *chain, size_t chain_length, uint64_
  *   14      the tool length
  *   3 to 9  the chain
  *   16      a joint is not finite
- *   17      a position is above 10,000,000 mm in size, an angle above 36,000 degrees, a pivot or the tool length
- *           above 100,000 mm */
+ *   17      a position is above 10,000,000 mm in size, an angle or a rest angle above 36,000 degrees, a pivot or the
+ *           tool length above 100,000 mm */
 uint32_t maztubel_forward(const uint8_t *chain, size_t chain_length, const double *joints, size_t joints_length,
                           double tool_length, double *pose, size_t pose_length, uint64_t *at, uint8_t *letter);
 
@@ -231,7 +234,8 @@ uint32_t maztubel_forward(const uint8_t *chain, size_t chain_length, const doubl
  *   15      the tool axis is not finite, is zero, or its length overflows
  *   3 to 9  the chain
  *   16      the tip or the hint is not finite
- *   17      a tip, a pivot or the tool length is above 100,000 mm in size, or a hint above 36,000 degrees
+ *   17      a tip, a pivot or the tool length is above 100,000 mm in size, or a hint or a rest angle above 36,000
+ *           degrees
  * and that clear the outputs:
  *   21      the rotaries do not reach the tool axis
  *   22      they reach it only outside their limits */
@@ -306,7 +310,7 @@ uint32_t maztubel_choose(const uint8_t *chain, size_t chain_length, const double
  *   12      its carrier
  *   13      its solid
  *           after the last link:
- *   17      a pivot is above 100,000 mm in size */
+ *   17      a pivot is above 100,000 mm in size, or a rest angle above 36,000 degrees */
 uint32_t maztubel_check_model(const uint8_t *name, size_t name_length, const uint8_t *chain, size_t chain_length,
                               const uint8_t *model, size_t model_length, uint64_t *at, uint8_t *letter);
 
@@ -322,7 +326,8 @@ uint32_t maztubel_check_model(const uint8_t *name, size_t name_length, const uin
  *           the refusals of maztubel_check_model without 17
  *   16      a joint is not finite
  *   12      the carrier, with *at 0
- *   17      a position is above 10,000,000 mm in size, an angle above 36,000 degrees, a pivot above 100,000 mm */
+ *   17      a position is above 10,000,000 mm in size, an angle or a rest angle above 36,000 degrees, a pivot above
+ *           100,000 mm */
 uint32_t maztubel_link_world(const uint8_t *name, size_t name_length, const uint8_t *chain, size_t chain_length,
                              const uint8_t *model, size_t model_length, const double *joints, size_t joints_length,
                              const uint8_t *carrier, size_t carrier_length, double *frame, size_t frame_length, uint64_t *at,
@@ -357,8 +362,8 @@ uint32_t maztubel_link_in_part(const uint8_t *name, size_t name_length, const ui
  *   3 to 9  the chain
  *   30      the two rotaries are parallel, also for a path without poses
  *   16      the start is not finite
- *   17      a pivot is above 100,000 mm in size, the start's position above 10,000,000 mm or an angle of it above
- *           36,000 degrees, or there are more than 100,000 poses
+ *   17      a pivot is above 100,000 mm in size, the start's position above 10,000,000 mm, a rest angle or an angle of
+ *           the start above 36,000 degrees, or there are more than 100,000 poses
  *   28      there is no space for the joints; *at is 0
  * Refusals at a pose, each pose in turn, with *at its index. They clear the whole output:
  *   25      its axis is not finite, is zero, or its length overflows
@@ -398,8 +403,8 @@ uint32_t maztubel_solve_path(const uint8_t *chain, size_t chain_length, const do
  *   3 to 9  the chain
  *   30      the two rotaries are parallel, also for a path without poses
  *   16      a number of a pose or a joint set is not finite
- *   17      a pivot or a tip is above 100,000 mm in size, a position above 10,000,000 mm, an angle above 36,000
- *           degrees, or there are more than 100,000 poses
+ *   17      a pivot or a tip is above 100,000 mm in size, a position above 10,000,000 mm, an angle or a rest angle above
+ *           36,000 degrees, or there are more than 100,000 poses
  * Refusals that clear both outputs:
  *   28      there is no space for the given poses; *inserted is 0
  *   27      an insertion would be the 10,001st
@@ -434,7 +439,7 @@ uint32_t maztubel_solve_and_divide(const uint8_t *chain, size_t chain_length, co
  *   0                      offset of the chain, whose bytes are as above
  *   4                      offset of the poses, 48 bytes each: 3 doubles of the tip, 3 of the axis
  *   8                      number of poses
- *   12                     zero
+ *   12                     1 if each rotary of the chain has a rest angle, 0 if none has
  *   16                     the cone in degrees
  *   24                     the chord tolerance in mm
  *   32                     the axis tolerance in degrees
@@ -444,20 +449,23 @@ uint32_t maztubel_solve_and_divide(const uint8_t *chain, size_t chain_length, co
 
 /* Reads a job.
  *
- *   chain_at  offset of the chain, which is 104 or 176 bytes long, by its number of rotaries
- *   poses_at  offset of the first pose
- *   count     how many poses, at most 1,362
- *   cone      in degrees
- *   chord     the chord tolerance in mm
- *   axis      the axis tolerance in degrees
- *   at        0 after success
+ *   chain_at      offset of the chain
+ *   chain_length  how many bytes the chain has: 104 or 112 with one rotary, 176 or 192 with two. Exactly these bytes
+ *                 are the chain for the other functions, which read it as this job's
+ *   poses_at      offset of the first pose
+ *   count         how many poses, at most 1,362
+ *   cone          in degrees
+ *   chord         the chord tolerance in mm
+ *   axis          the axis tolerance in degrees
+ *   at            0 after success
  *
  * Refusals, all of which keep every output but *at:
  *   29  the form of the bytes; *at is the offset of the first bad field, 0 for the length
  *   3   the number of rotaries; *at is 0
  *   4   a rotary's letter; *at is the rotary's index */
-uint32_t maztubel_read_job(const uint8_t *job, size_t job_length, uint64_t *chain_at, uint64_t *poses_at, uint64_t *count,
-                           double *cone, double *chord, double *axis, uint64_t *at);
+uint32_t maztubel_read_job(const uint8_t *job, size_t job_length, uint64_t *chain_at, uint64_t *chain_length,
+                           uint64_t *poses_at, uint64_t *count, double *cone, double *chord, double *axis,
+                           uint64_t *at);
 
 /* Writes the poses of a job, 6 doubles each as on a path, and +0.0 behind them.
  *
@@ -475,8 +483,9 @@ uint32_t maztubel_job_poses(const uint8_t *job, size_t job_length, double *poses
  *   cone    in degrees
  *   chord   the chord tolerance in mm
  *   axis    the axis tolerance in degrees
- *   job     output: the job at its front, 104 or 176 bytes for the chain, 48 for each pose and 40 for the trailer.
- *           Bytes behind the job stay. The offset of the poses is the chain's end, also where there are none
+ *   job     output: the job at its front, the chain, 48 bytes for each pose and 40 for the trailer. The chain has 104
+ *           or 176 bytes where every rest angle is +0.0, and 112 or 192 where one is not, -0.0 included. Bytes behind
+ *           the job stay. The offset of the poses is the chain's end, also where there are none
  *   length  output of every call: how many bytes the job has, 0 with a refusal
  *
  * maztubel_read_job and maztubel_job_poses give for these bytes what was passed here, bit for bit. What they give for
@@ -489,15 +498,17 @@ uint32_t maztubel_job_poses(const uint8_t *job, size_t job_length, double *poses
  *   18      the cone
  *   19      the chord tolerance, then the axis tolerance
  *   16      a number of a pose is not finite
- *   17      a pivot or a tip is above 100,000 mm in size, or the job has more than 65,536 bytes
+ *   17      a pivot or a tip is above 100,000 mm in size, a rest angle above 36,000 degrees, or the job has more than
+ *           65,536 bytes
  *   28      there is no space for the job
  * Two parallel rotaries are written: 30 is for the calls on paths. */
 uint32_t maztubel_write_job(const uint8_t *chain, size_t chain_length, const double *poses, size_t poses_length,
                             double cone, double chord, double axis, uint8_t *job, size_t job_length, uint64_t *length,
                             uint64_t *at, uint8_t *letter);
 
-/* Writes the cable number of a rotary on a path: the largest whole k with 360 * k at most the size of some angle of
- * that rotary, in degrees. It is 0 on an empty path and for a rotary that the chain does not have.
+/* Writes the cable number of a rotary on a path: the largest whole k with 360 * k at most the size of the difference of
+ * some angle of that rotary and its rest angle, in degrees, rounded once. It is 0 on an empty path and for a rotary that
+ * the chain does not have.
  *
  *   joints  joint sets of 5 doubles each, any number of them
  *   rotary  the index of the rotary in the chain, from 0
@@ -507,7 +518,8 @@ uint32_t maztubel_write_job(const uint8_t *chain, size_t chain_length, const dou
  *   29      the chain's bytes
  *   3 to 9  the chain
  *   16      a joint is not finite
- *   17      a position is above 10,000,000 mm in size, an angle above 36,000 degrees, a pivot above 100,000 mm */
+ *   17      a position is above 10,000,000 mm in size, an angle or a rest angle above 36,000 degrees, a pivot above
+ *           100,000 mm */
 uint32_t maztubel_cable_number(const uint8_t *chain, size_t chain_length, const double *joints, size_t joints_length,
                                uint64_t rotary, uint64_t *number, uint64_t *at, uint8_t *letter);
 

@@ -45,14 +45,15 @@ static void print_bytes(const uint8_t *bytes, uint64_t length) {
 
 /* Whether the job has the numbers that were written, bit for bit. */
 static int read_back(const uint8_t *job, size_t length, const double *poses) {
-    uint64_t chain_at, poses_at, count, at;
+    uint64_t chain_at, chain_length, poses_at, count, at;
     double numbers[3], read[POSE * POSES];
     const double given[3] = {cone, chord, axis};
-    uint32_t number =
-        maztubel_read_job(job, length, &chain_at, &poses_at, &count, &numbers[0], &numbers[1], &numbers[2], &at);
+    uint32_t number = maztubel_read_job(job, length, &chain_at, &chain_length, &poses_at, &count, &numbers[0],
+                                        &numbers[1], &numbers[2], &at);
     if (number != MAZTUBEL_SERVED || maztubel_job_poses(job, length, read, POSE * POSES, &at) != MAZTUBEL_SERVED)
         return 0;
-    printf("chain at %" PRIu64 ", %" PRIu64 " poses at %" PRIu64 "\n", chain_at, count, poses_at);
+    printf("chain at %" PRIu64 ", %" PRIu64 " bytes, %" PRIu64 " poses at %" PRIu64 "\n", chain_at, chain_length, count,
+           poses_at);
     return memcmp(numbers, given, sizeof given) == 0 && memcmp(read, poses, sizeof read) == 0;
 }
 

@@ -1,9 +1,9 @@
-//! The cable number: cases drawn at random, above all angles at whole turns and a place beside them, a call of the export, and what is
-//! expected of it. The chain is checked by the Rust, the number is counted in whole numbers.
+//! The cable number: cases drawn at random, above all angles that are whole turns from the rest angle and a place beside them, a call
+//! of the export, and what is expected of it. The chain is checked by the Rust, the number is counted in whole numbers.
 
 use crate::angles::{moved, signed, within};
 use crate::calls::{Guarded, LENT_AT, LENT_LETTER, Told};
-use crate::chains::{chain_bytes, sound};
+use crate::chains::{Chain, harmed_bytes, sound};
 use crate::floats::subnormal;
 use crate::joints::{MOST_ANGLE, MOST_POSITION, joints, sound_joints};
 use crate::maztubel;
@@ -13,13 +13,14 @@ use crate::random::Random;
 use crate::reading;
 use crate::reference::{
     LENGTHS_DIFFER, NOT_FINITE, Refusal, TOO_LARGE, bare, finite, joints_fit, malformed,
-    pivots_fit, refusal, refused as refused_with,
+    chain_fits, refusal, refused as refused_with,
 };
 use crate::rust::ported;
 use std::fmt;
 
-/// So many whole turns are in the largest angle.
-const MOST_TURNS: u64 = 100;
+/// So many whole turns are in the largest difference of an angle and a rest angle.
+#[cfg(test)]
+const MOST_TURNS: u64 = 200;
 
 pub struct Case {
     pub chain: Vec<u8>,
@@ -31,7 +32,8 @@ impl Case {
     /// Half of the time nothing is damaged, so that enough is served.
     pub fn drawn(random: &mut Random) -> Self {
         let damaged = random.below(2) == 0;
-        let mut joints = wound(random);
+        let chain = sound(random);
+        let mut joints = wound(&chain, random);
         if damaged {
             for _ in 0..damages(random) {
                 damage(&mut joints, random);
@@ -39,8 +41,8 @@ impl Case {
         }
         Case {
             chain: match damaged {
-                true => chain_bytes(random),
-                false => sound(random).bytes(),
+                true => harmed_bytes(chain, random),
+                false => chain.bytes(),
             },
             joints,
             rotary: match random.below(8) {
@@ -53,21 +55,21 @@ impl Case {
 }
 
 /// Joint sets that are served, none to some dozens, mostly few.
-fn wound(random: &mut Random) -> Vec<f64> {
+fn wound(chain: &Chain, random: &mut Random) -> Vec<f64> {
     let most = random.one_of(&[1, 2, 3, 4, 8, 50]);
     let mut joints = Vec::new();
     for _ in 0..random.below(most + 1) {
         let mut set = sound_joints(random);
-        for angle in &mut set[3..] {
-            *angle = degrees(random);
+        for (angle, rotary) in set[3..].iter_mut().zip(&chain.rotaries) {
+            *angle = degrees(rotary.rest, random);
         }
         joints.extend(set);
     }
     joints
 }
 
-/// Often a whole number of turns, or a place more or less.
-fn degrees(random: &mut Random) -> f64 {
+/// Often a whole number of turns from the rest angle, or a place more or less.
+fn degrees(rest: f64, random: &mut Random) -> f64 {
     match random.below(8) {
         0 => random.one_of(&[0.0, -0.0]),
         1 => subnormal(random),
@@ -75,9 +77,10 @@ fn degrees(random: &mut Random) -> f64 {
         3 => within(MOST_ANGLE, random),
         4 => within(720.0, random),
         _ => {
-            let turns = 1 + random.below(MOST_TURNS);
-            let angle = moved(360.0 * turns as f64, 1, random);
-            signed(angle.min(MOST_ANGLE), random)
+            let most = ((MOST_ANGLE + rest.abs()) / 360.0) as u64;
+            let wind = signed(360.0 * (1 + random.below(most)) as f64, random);
+            let angle = moved(rest + wind, 1, random);
+            angle.clamp(-MOST_ANGLE, MOST_ANGLE)
         }
     }
 }
@@ -105,9 +108,9 @@ fn damage(all: &mut Vec<f64>, random: &mut Random) {
     }
 }
 
-/// The largest whole k with 360 k at most the size of a finite angle: that many times 360 are in its whole part, since 360 is whole.
-pub fn turns(angle: f64) -> u64 {
-    let bits = angle.to_bits() & (u64::MAX >> 1);
+/// The largest whole k with 360 k at most the size of a finite difference: that many times 360 are in its whole part, since 360 is whole.
+pub fn turns(wind: f64) -> u64 {
+    let bits = wind.to_bits() & (u64::MAX >> 1);
     let (exponent, digits) = (bits >> 52, bits & ((1 << 52) - 1));
     let (digits, exponent) = match exponent {
         0 => (digits, 1),
@@ -120,6 +123,12 @@ pub fn turns(angle: f64) -> u64 {
     (whole / 360) as u64
 }
 
+/// The difference of each angle and the rest angle, taken once in floats.
+pub fn winds(chain: &Chain, joints: &[f64], rotary: usize) -> impl Iterator<Item = f64> {
+    let rest = chain.rotaries[rotary].rest;
+    joints.chunks(JOINTS).map(move |set| set[3 + rotary] - rest)
+}
+
 pub fn expected(case: &Case) -> Result<u64, Refusal> {
     if !case.joints.len().is_multiple_of(JOINTS) {
         return refused_with(LENGTHS_DIFFER);
@@ -130,14 +139,13 @@ pub fn expected(case: &Case) -> Result<u64, Refusal> {
     if !finite(&case.joints) {
         return refused_with(NOT_FINITE);
     }
-    if !pivots_fit(&chain) || !case.joints.chunks(JOINTS).all(joints_fit) {
+    if !chain_fits(&chain) || !case.joints.chunks(JOINTS).all(joints_fit) {
         return refused_with(TOO_LARGE);
     }
     if case.rotary >= u64::from(chain.count) {
         return Ok(0);
     }
-    let angles = case.joints.chunks(JOINTS);
-    let each = angles.map(|set| turns(set[3 + case.rotary as usize]));
+    let each = winds(&chain, &case.joints, case.rotary as usize).map(turns);
     Ok(each.max().unwrap_or(0))
 }
 

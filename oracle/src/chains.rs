@@ -3,8 +3,12 @@
 
 use crate::angles::{moved, signed, within};
 use crate::floats::{self, power_of_two, subnormal};
+use crate::joints::MOST_ANGLE;
 use crate::numbers::{damages, not_finite, refused, served};
 use crate::random::Random;
+
+/// A rest angle may be as large as any angle.
+pub const MOST_REST: f64 = MOST_ANGLE;
 
 /// A pivot's component may be as large as this.
 pub const MOST_PIVOT: f64 = 100_000.0;
@@ -28,6 +32,16 @@ pub struct Rotary {
     pub pivot: [f64; 3],
     /// The least and the largest angle, +0.0 where there are no limits.
     pub limits: [f64; 2],
+    /// Only in the bytes of a chain with rest angles, else +0.0.
+    pub rest: f64,
+}
+
+impl Rotary {
+    /// Whether the limits are none that the Rust refuses.
+    pub fn limits_served(&self) -> bool {
+        let [least, most] = self.limits;
+        self.limited == 0 || (least.is_finite() && most.is_finite() && least < most)
+    }
 }
 
 /// The fields of a chain. A second rotary that the chain lacks does not stand in the bytes.
@@ -37,11 +51,13 @@ pub struct Chain {
     pub zeros: [u8; 7],
     pub rotaries: [Rotary; 2],
     pub spindle: [f64; 3],
+    /// Whether each record has a rest angle behind the limits.
+    pub rested: bool,
 }
 
 impl Chain {
     pub fn bytes(&self) -> Vec<u8> {
-        let mut bytes = Vec::with_capacity(176);
+        let mut bytes = Vec::with_capacity(192);
         bytes.push(self.count);
         bytes.extend(self.zeros);
         let written = if self.count == 1 { 1 } else { 2 };
@@ -51,9 +67,26 @@ impl Chain {
             push_numbers(&mut bytes, &rotary.axis);
             push_numbers(&mut bytes, &rotary.pivot);
             push_numbers(&mut bytes, &rotary.limits);
+            if self.rested {
+                push_numbers(&mut bytes, &[rotary.rest]);
+            }
         }
         push_numbers(&mut bytes, &self.spindle);
         bytes
+    }
+
+    /// How long a rotary's record is.
+    pub fn record(&self) -> usize {
+        if self.rested { 80 } else { 72 }
+    }
+
+    /// With a rest angle of each rotary, where it is not without any.
+    pub fn resting(mut self, random: &mut Random) -> Self {
+        self.rested = random.below(2) == 0;
+        for rotary in &mut self.rotaries {
+            rotary.rest = if self.rested { rest(random) } else { 0.0 };
+        }
+        self
     }
 
     /// The rotaries that the chain has. Of a count that no chain has, as many as it says.
@@ -102,7 +135,7 @@ pub fn sound(random: &mut Random) -> Chain {
     if second.letter == first.letter {
         second.letter = b'A' + (first.letter - b'A' + 1) % 3;
     }
-    Chain {
+    let chain = Chain {
         count: random.one_of(&[1, 2, 2]),
         zeros: [0; 7],
         rotaries: [first, second],
@@ -111,6 +144,19 @@ pub fn sound(random: &mut Random) -> Chain {
             1 => [0.0, 0.0, 1.0],
             _ => axis(random),
         },
+        rested: false,
+    };
+    chain.resting(random)
+}
+
+/// A rest angle that is served, often +0.0 or -0.0.
+fn rest(random: &mut Random) -> f64 {
+    match random.below(8) {
+        0 | 1 => 0.0,
+        2 => -0.0,
+        3 => subnormal(random),
+        4 => within(360.0, random),
+        _ => served(MOST_REST, 720.0, random),
     }
 }
 
@@ -127,6 +173,7 @@ fn rotary(axis: [f64; 3], random: &mut Random) -> Rotary {
             0 => [0.0; 2],
             _ => sound_limits(random),
         },
+        rest: 0.0,
     }
 }
 
@@ -270,7 +317,7 @@ pub fn slot(random: &mut Random) -> usize {
 /// Changes a field so that a check of the chain refuses it, where the field is read at all.
 fn damage(chain: &mut Chain, random: &mut Random) {
     let rotary = &mut chain.rotaries[random.below(2) as usize];
-    match random.below(13) {
+    match random.below(16) {
         0 => rotary.letter = random.one_of(&[0, b'@', b'D', b'Z', b'a', 0xC1, 0xFF]),
         1 => chain.rotaries[1].letter = chain.rotaries[0].letter,
         2 => rotary.axis[slot(random)] = not_finite(random),
@@ -285,6 +332,11 @@ fn damage(chain: &mut Chain, random: &mut Random) {
         9 => chain.spindle[slot(random)] = not_finite(random),
         10 => chain.spindle = bad_axis(random),
         11 => chain.rotaries[0].pivot[slot(random)] = signed(MOST_PIVOT.next_up(), random),
+        12 | 13 => (chain.rested, rotary.rest) = (true, not_finite(random)),
+        14 => {
+            chain.rested = true;
+            rotary.rest = random.one_of(&[MOST_REST.next_up(), -MOST_REST.next_up()]);
+        }
         _ => chain.count = random.one_of(&[0, 3, 4, 128, 255]),
     }
 }
@@ -315,9 +367,9 @@ fn resize(bytes: &mut Vec<u8>, random: &mut Random) {
         1 => 1,
         2 => length - 1,
         3 => length + 1,
-        4 => 104,
-        5 => 176,
-        6 => 104 + 72 * random.below(4),
+        4 => random.one_of(&[104, 112]),
+        5 => random.one_of(&[176, 192]),
+        6 => 104 + random.one_of(&[72, 80]) * random.below(4),
         _ => random.below(300),
     };
     bytes.resize(length as usize, 0);
@@ -330,7 +382,7 @@ mod tests {
     #[test]
     fn fields_stand_where_the_document_has_them() {
         let mut chain = sound(&mut Random::new(1));
-        chain.count = 2;
+        (chain.count, chain.rested) = (2, false);
         chain.rotaries[1].letter = b'B';
         chain.rotaries[1].limits = [-7.0, 8.0];
         let bytes = chain.bytes();
@@ -340,7 +392,16 @@ mod tests {
         assert_eq!(number(80 + 32), chain.rotaries[1].pivot[0]);
         assert_eq!((number(80 + 56), number(80 + 64)), (-7.0, 8.0));
         assert_eq!(number(152), chain.spindle[0]);
+        chain.rested = true;
+        chain.rotaries[1].rest = 9.0;
+        let bytes = chain.bytes();
+        let number = |at: usize| f64::from_le_bytes(bytes[at..at + 8].try_into().unwrap());
+        assert_eq!((bytes.len(), bytes[88]), (192, b'B'));
+        assert_eq!((number(88 + 64), number(88 + 72)), (8.0, 9.0));
+        assert_eq!(number(168), chain.spindle[0]);
         chain.count = 1;
+        assert_eq!(chain.bytes().len(), 112);
+        chain.rested = false;
         assert_eq!(chain.bytes().len(), 104);
     }
 }

@@ -10,7 +10,7 @@ use crate::maztubel::{self, Course, Lent, Solved};
 use crate::original::ported::kinematics::FiveAxisSetup;
 use crate::paths::{JOINTS, POSE, Path};
 use crate::reading;
-use crate::reference::{bare, finite, joints_fit, pivots_fit, refusal};
+use crate::reference::{bare, finite, joints_fit, chain_fits, refusal};
 use crate::rust::ported;
 use crate::solved::{self, MOST_POSES, far};
 use std::fmt;
@@ -144,7 +144,7 @@ fn of_joints(division: &Division, joints: &[f64]) -> Result<Verdict, Refusal> {
         return Err(Refusal::keeping(16, 0));
     }
     let far = poses.chunks(POSE).any(|pose| far(&pose[..3]));
-    if far || !pivots_fit(&chain) || !joints.chunks(JOINTS).all(joints_fit) || given > MOST_POSES {
+    if far || !chain_fits(&chain) || !joints.chunks(JOINTS).all(joints_fit) || given > MOST_POSES {
         return Err(Refusal::keeping(17, 0));
     }
     Ok(Verdict::Judged {

@@ -6,7 +6,7 @@ use crate::joints::{MOST_ANGLE, MOST_TOOL};
 use crate::reading;
 use crate::reference::{
     LENGTHS_DIFFER, NOT_FINITE, NOT_REACHABLE, OUTSIDE_LIMITS, Refusal, TOO_LARGE, bare, exceeds,
-    finite, malformed, pivots_fit, refusal, refused,
+    finite, malformed, chain_fits, refusal, refused,
 };
 use crate::rust::{ported, untouched};
 
@@ -23,7 +23,7 @@ pub fn expected(entry: Entry, case: &Case) -> Answer {
     let chain = reading::chain(&case.chain).map_err(malformed)?;
     let (hint, tool) = (hint(entry, case), case.tool_length);
     let finite_hint = finite(&hint);
-    let fit = pivots_fit(&chain)
+    let fit = chain_fits(&chain)
         && !case.pose[..3].iter().any(|&x| exceeds(x, MOST_TIP))
         && !hint.iter().any(|&x| exceeds(x, MOST_ANGLE))
         && !exceeds(tool, MOST_TOOL);
@@ -185,10 +185,11 @@ mod tests {
         chain.count = 2;
         chain.rotaries[1] = chain.rotaries[0];
         (chain.rotaries[1].letter, chain.rotaries[1].axis) = (b'A', [1.0, 0.0, 0.0]);
+        chain.rested = true;
         case.chain = chain.bytes();
         assert_eq!(number(&case), 0);
         for x in [f64::NAN, f64::INFINITY, f64::NEG_INFINITY] {
-            for at in (16..80).chain(88..176).step_by(8) {
+            for at in (16..88).chain(96..192).step_by(8) {
                 let mut case = case.clone();
                 case.chain[at..at + 8].copy_from_slice(&x.to_le_bytes());
                 assert!([6, 8].contains(&number(&case)), "{at}");

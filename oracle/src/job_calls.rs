@@ -27,17 +27,17 @@ fn as_left(x: f64) -> u64 {
     }
 }
 
-/// Calls the reader. The lent numbers are the two places and the count, then the cone and the two tolerances, each with a number
-/// before and behind it that no call may write to.
+/// Calls the reader. The lent numbers are the chain's place and length, the poses' place and count, then the cone and the two
+/// tolerances, each with a number before and behind it that no call may write to.
 pub fn ask_read(bytes: &[u8]) -> Told {
-    let mut places = [LENT_AT; 7];
+    let mut places = [LENT_AT; 9];
     let mut numbers = [f64::from_bits(LENT); 7];
     let mut at = [LENT_AT; 3];
-    let [_, chain_at, _, poses_at, _, count, _] = &mut places;
+    let [_, chain_at, _, chain_length, _, poses_at, _, count, _] = &mut places;
     let [_, cone, _, chord, _, axis, _] = &mut numbers;
     let number = maztubel::read_job(
         bytes,
-        [chain_at, poses_at, count],
+        [chain_at, chain_length, poses_at, count],
         [cone, chord, axis],
         &mut at[1],
     );
@@ -45,17 +45,18 @@ pub fn ask_read(bytes: &[u8]) -> Told {
         number,
         at,
         letter: [LENT_LETTER; 3],
-        numbers: [places, numbers.map(as_left)].concat(),
+        numbers: [&places[..], &numbers.map(as_left)].concat(),
     }
 }
 
 /// What the reader tells where it answers as it must.
 pub fn telling_read(read: &Read) -> Told {
-    let mut places = [LENT_AT; 7];
+    let mut places = [LENT_AT; 9];
     let mut numbers = [LENT; 7];
     if let Ok(job) = read {
         let count = job.poses.len() / POSE_BYTES;
-        for (i, place) in [job.chain.start, job.poses.start, count].iter().enumerate() {
+        let read = [job.chain.start, job.chain.len(), job.poses.start, count];
+        for (i, place) in read.iter().enumerate() {
             places[1 + 2 * i] = *place as u64;
         }
         for (i, number) in [job.cone, job.chord, job.axis].iter().enumerate() {
@@ -71,7 +72,7 @@ pub fn telling_read(read: &Read) -> Told {
             LENT_AT,
         ],
         letter: [LENT_LETTER; 3],
-        numbers: [places, numbers].concat(),
+        numbers: [&places[..], &numbers].concat(),
     }
 }
 

@@ -2,7 +2,7 @@
 //! and to the length.
 
 use crate::chains::slot;
-use crate::jobs::{Written, number};
+use crate::jobs::{RESTED_ONE, RESTED_TWO, Written, number};
 use crate::random::Random;
 use job::{MOST_BYTES, POSE, TRAILER};
 
@@ -13,7 +13,7 @@ const WRAPPING: usize = (1 << 32) / POSE + 1;
 const CHAIN_OFFSET: usize = 0;
 const POSE_OFFSET: usize = 1;
 const POSE_COUNT: usize = 2;
-const ZERO_WORD: usize = 3;
+const WORD: usize = 3;
 
 /// Changes a field, mostly so that the reader refuses it.
 pub fn damage(job: &mut Written, random: &mut Random) {
@@ -33,14 +33,19 @@ fn damage_trailer(job: &mut Written, random: &mut Random) {
         0 | 1 => job.set_word(CHAIN_OFFSET, chain_offset(job, random)),
         2..=4 => job.set_word(POSE_OFFSET, pose_offset(job, random)),
         5 => job.set_word(POSE_COUNT, pose_count(job, random)),
-        6 => job.set_word(ZERO_WORD, 1 << random.below(32)),
+        6 => {
+            let bit = 1 << random.below(32);
+            job.set_word(WORD, random.one_of(&[0, 1, 2, 3, bit, bit]));
+        }
         _ => job.set_number(trailer + 16 + 8 * slot(random), number(random)),
     }
 }
 
 fn damage_chain(job: &mut Written, random: &mut Random) {
     let start = job.chain.start;
-    let rotary = start + 8 + 72 * random.below(2) as usize;
+    let rested = [RESTED_ONE, RESTED_TWO].contains(&job.chain.len());
+    let record = if rested { 80 } else { 72 };
+    let rotary = start + 8 + record * random.below(2) as usize;
     let not_0 = 1 + random.below(255) as u8;
     let not_0_or_1 = 2 + random.below(254) as u8;
     match random.below(9) {
@@ -56,7 +61,7 @@ fn damage_chain(job: &mut Written, random: &mut Random) {
             job.set(rotary + 2, 0);
             job.set_number(rotary + 56 + 8 * random.below(2) as usize, unused);
         }
-        _ => job.set_number(start + 8 + 8 * random.below(20) as usize, number(random)),
+        _ => job.set_number(start + 8 + 8 * random.below(22) as usize, number(random)),
     }
 }
 

@@ -1,10 +1,10 @@
 //! What comes of reading jobs, of counting cable numbers and of running the program: how often each answer was met, and the differences
 //! from what is expected.
 
-use crate::cables::{self, Case, turns};
+use crate::cables::{self, Case, turns, winds};
 use crate::calls::{Guarded, Told};
 use crate::job_calls::{Read, ask_poses, ask_read, expected_poses, telling_poses, telling_read};
-use crate::jobs::{for_program, for_reader, short};
+use crate::jobs::{RESTED_ONE, RESTED_TWO, for_program, for_reader, short};
 use crate::joints::MOST_ANGLE;
 use crate::met::{Account, Differences, Met};
 use crate::parts::Outcome;
@@ -26,7 +26,7 @@ const CABLE_NUMBER: usize = 2;
 const POST: usize = 3;
 
 /// What each can answer. The reader's 29 is counted by the field, in the chain by the rotary's.
-const READ: [&str; 15] = [
+const READ: [&str; 18] = [
     "served",
     "served, no poses at the trailer",
     "served, 65536 bytes",
@@ -40,8 +40,11 @@ const READ: [&str; 15] = [
     "29, no poses, past the trailer",
     "29, poses on the chain",
     "29, one byte of the poses on the chain",
-    "29, the zero word",
+    "29, the word",
     "29, zeros behind the count",
+    "served, rest angles",
+    "29, the chain past the trailer by its rest angles",
+    "29, poses on the chain by its rest angles",
 ];
 const ROTARY: [&str; 6] = [
     "4",
@@ -62,7 +65,7 @@ const POSES: [&str; 9] = [
     "28",
     "29",
 ];
-const CABLE: [&str; 20] = [
+const CABLE: [&str; 28] = [
     "served, no joints",
     "served, no such rotary",
     "served, no turn",
@@ -70,6 +73,12 @@ const CABLE: [&str; 20] = [
     "served, just whole turns",
     "served, a place below whole turns",
     "served, 36000 degrees",
+    "served, from a rest angle",
+    "served, just whole turns from a rest angle",
+    "served, a place below whole turns from a rest angle",
+    "served, whole turns by the rounding of the difference",
+    "served, 72000 degrees",
+    "served, a rest angle of -0.0",
     "3",
     "4",
     "5",
@@ -83,6 +92,8 @@ const CABLE: [&str; 20] = [
     "17, an angle",
     "20",
     "29",
+    "6, a rest angle",
+    "17, a rest angle",
 ];
 const POSTED: [&str; 21] = [
     "poses, none inserted",
@@ -295,7 +306,11 @@ fn answered_read(bytes: &[u8], read: &Read) -> Vec<String> {
     let nan = [job.cone, job.chord, job.axis].iter().any(|x| x.is_nan());
     let each = [true, at_trailer, bytes.len() == MOST_BYTES, nan];
     let met = READ.iter().zip(each).filter(|(_, met)| *met);
-    met.map(|(what, _)| (*what).to_owned()).collect()
+    let mut met: Vec<String> = met.map(|(what, _)| (*what).to_owned()).collect();
+    if [RESTED_ONE, RESTED_TWO].contains(&job.chain.len()) {
+        met.push(READ[15].to_owned());
+    }
+    met
 }
 
 /// The field at the offset of a 29.
@@ -311,33 +326,36 @@ fn field(bytes: &[u8], at: usize) -> String {
         u32::from_le_bytes(four.try_into().expect("4 bytes")) as usize
     };
     let (chain, poses, end) = (word(0), word(1), word(1) + 48 * word(2));
+    let record = if word(3) == 1 { 80 } else { 72 };
+    let chain_end = |record: usize| chain + 32 + record * usize::from(bytes[chain]);
     match at.checked_sub(trailer) {
         Some(0) if chain >= trailer => READ[7].to_owned(),
+        Some(0) if chain_end(72) <= trailer => READ[16].to_owned(),
         Some(0) => READ[8].to_owned(),
         Some(4) if end > trailer && end == poses => READ[10].to_owned(),
         Some(4) if end > trailer => READ[9].to_owned(),
+        Some(4) if end > chain && poses >= chain_end(72) => READ[17].to_owned(),
         Some(4) => {
-            let chain_end = chain + 32 + 72 * usize::from(bytes[chain]);
-            let one = poses + 1 == chain_end || end == chain + 1;
+            let one = poses + 1 == chain_end(record) || end == chain + 1;
             READ[if one { 12 } else { 11 }].to_owned()
         }
         Some(_) => READ[13].to_owned(),
-        None => field_of_chain(at - chain),
+        None => field_of_chain(at - chain, record),
     }
 }
 
-fn field_of_chain(at: usize) -> String {
+fn field_of_chain(at: usize, record: usize) -> String {
     let Some(at) = at.checked_sub(8) else {
         return READ[14].to_owned();
     };
-    let field = match at % 72 {
+    let field = match at % record {
         1 => 1,
         2 => 2,
         3..8 => 3,
         56 => 4,
         _ => 5,
     };
-    format!("{}, rotary {}", ROTARY[field], at / 72)
+    format!("{}, rotary {}", ROTARY[field], at / record)
 }
 
 /// Which of `POSES`.
@@ -361,29 +379,54 @@ fn served_cable(case: &Case, number: u64) -> String {
     if case.rotary >= u64::from(chain.count) {
         return CABLE[1].to_owned();
     }
-    let sets = case.joints.chunks(JOINTS);
-    let largest = sets.fold(0f64, |most, set| {
-        most.max(set[3 + case.rotary as usize].abs())
-    });
+    let rotary = case.rotary as usize;
+    let rest = chain.rotaries[rotary].rest;
+    let most = |most: f64, wind: f64| most.max(wind.abs());
+    let largest = winds(&chain, &case.joints, rotary).fold(0f64, most);
+    let below = turns(largest.next_up()) > number;
+    let just = number > 0 && turns(largest.next_down()) < number;
     let what = match number {
+        _ if largest == 2.0 * MOST_ANGLE => 11,
+        _ if just && rounded_up(case, rotary, rest, number) => 10,
+        _ if rest != 0.0 && below => 9,
+        _ if rest != 0.0 && just => 8,
+        _ if rest != 0.0 => 7,
+        _ if rest.is_sign_negative() => 12,
         _ if largest == MOST_ANGLE => 6,
-        _ if turns(largest.next_up()) > number => 5,
+        _ if below => 5,
         0 => 2,
-        _ if turns(largest.next_down()) < number => 4,
+        _ if just => 4,
         _ => 3,
     };
     CABLE[what].to_owned()
 }
 
-/// The same of a refusal: of 16 and 17 where it is.
+/// Whether no angle is exactly so many turns from the rest angle: those are counted that are whole multiples of 2^-60.
+fn rounded_up(case: &Case, rotary: usize, rest: f64, number: u64) -> bool {
+    let scaled = |x: f64| x * 2f64.powi(60);
+    let whole = |x: f64| (scaled(x).fract() == 0.0).then_some(scaled(x) as i128);
+    let turns = (i128::from(number) * 360) << 60;
+    case.joints.chunks(JOINTS).all(|set| {
+        let exact = whole(set[3 + rotary]).zip(whole(rest));
+        exact.is_some_and(|(angle, rest)| (angle - rest).abs() < turns)
+    })
+}
+
+/// The same of a refusal: of 6, 16 and 17 where it is.
 fn refused_cable(case: &Case, number: u32) -> String {
     let angles = case.joints.chunks(JOINTS).flat_map(|set| &set[3..]);
+    let rests = |test: fn(f64) -> bool| {
+        let chain = reading::chain(&case.chain).expect("a chain that is read");
+        chain.present().any(|rotary| test(rotary.rest))
+    };
     let angle = match number {
+        6 if rests(|rest| !rest.is_finite()) => return CABLE[26].to_owned(),
+        17 if rests(|rest| rest.abs() > MOST_ANGLE) => return CABLE[27].to_owned(),
         16 => angles.into_iter().any(|x| !x.is_finite()),
         17 => angles.into_iter().any(|x| x.abs() > MOST_ANGLE),
         _ => return number.to_string(),
     };
-    let what = 14 + 2 * (number as usize - 16) + usize::from(angle);
+    let what = 20 + 2 * (number as usize - 16) + usize::from(angle);
     CABLE[what].to_owned()
 }
 
@@ -428,7 +471,12 @@ mod tests {
         tally.count()
     }
 
-    const FAULTS: [(&str, Fault); 10] = [
+    const FAULTS: [(&str, Fault); 11] = [
+        ("records of 72 bytes with the word 1", |entry, told| {
+            if entry == READ_JOB && told.number == 0 && told.numbers[3] % 80 == 32 {
+                told.numbers[3] -= told.numbers[3] / 80 * 8;
+            }
+        }),
         ("the offset behind the bad field", |_, told| {
             if told.number == 29 {
                 told.at[1] += 1;
@@ -446,12 +494,12 @@ mod tests {
         }),
         ("a count written on a refusal", |entry, told| {
             if entry == READ_JOB && told.number == 3 {
-                told.numbers[5] = 0;
+                told.numbers[7] = 0;
             }
         }),
         ("another nan", |entry, told| {
-            if entry == READ_JOB && f64::from_bits(told.numbers[8]).is_nan() && told.number == 0 {
-                told.numbers[8] ^= 1;
+            if entry == READ_JOB && f64::from_bits(told.numbers[10]).is_nan() && told.number == 0 {
+                told.numbers[10] ^= 1;
             }
         }),
         ("the space before the lengths", |entry, told| {

@@ -18,7 +18,11 @@ const MOST_POSES: u64 = 1362;
 const SPACE: u64 = 700;
 
 /// A chain of two rotaries, two poses and a trailer, and some bytes more.
-const SHORT: usize = 330;
+const SHORT: usize = 346;
+
+/// How long a chain with rest angles is, of one rotary and of two.
+pub const RESTED_ONE: usize = 112;
+pub const RESTED_TWO: usize = 192;
 
 /// Quarter turns up to the largest angle that is served.
 const QUARTERS: u64 = 400;
@@ -123,6 +127,7 @@ impl Content {
         chain.rotaries[0].letter = random.one_of(b"ABC");
         chain.rotaries[0].carrier = random.one_of(&[0, 1]);
         chain.rotaries[0].axis = [0.0, 0.0, 1.0];
+        let chain = chain.resting(random);
         let poses = match random.below(4) {
             0 => random.below(QUARTERS),
             _ => QUARTERS - 3 + random.below(8),
@@ -171,7 +176,8 @@ impl Content {
         if count == 0 {
             written.move_no_poses(random);
         }
-        written.put_trailer(count, &self.numbers);
+        let rested = [RESTED_ONE, RESTED_TWO].contains(&self.chain.len());
+        written.put_trailer(count, rested, &self.numbers);
         written
     }
 }
@@ -210,8 +216,9 @@ impl Written {
         self.poses = start..start;
     }
 
-    fn put_trailer(&mut self, count: usize, numbers: &[f64]) {
-        for word in [self.chain.start, self.poses.start, count, 0] {
+    fn put_trailer(&mut self, count: usize, rested: bool, numbers: &[f64]) {
+        let word = usize::from(rested);
+        for word in [self.chain.start, self.poses.start, count, word] {
             self.bytes.extend((word as u32).to_le_bytes());
         }
         push_numbers(&mut self.bytes, numbers);

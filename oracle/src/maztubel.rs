@@ -315,15 +315,17 @@ pub fn solve_and_divide(course: Course, tolerances: [f64; 2], lent: Lent) -> u32
     }
 }
 
-/// The places are those of the chain and of the poses, and their count; the numbers are the cone and the two tolerances.
-pub fn read_job(job: &[u8], places: [&mut u64; 3], numbers: [&mut f64; 3], at: &mut u64) -> u32 {
-    let [chain_at, poses_at, count] = places;
+/// The places are that of the chain with its length, that of the poses and their count; the numbers are the cone and the two
+/// tolerances.
+pub fn read_job(job: &[u8], places: [&mut u64; 4], numbers: [&mut f64; 3], at: &mut u64) -> u32 {
+    let [chain_at, chain_length, poses_at, count] = places;
     let [cone, chord, axis] = numbers;
     unsafe {
         maztubel_read_job(
             job.as_ptr(),
             job.len(),
             chain_at,
+            chain_length,
             poses_at,
             count,
             cone,

@@ -2,6 +2,7 @@
 //! exported ones, and by document 01 where it adds to the Rust. What the bytes say is told by the reader of tools/job.
 
 use crate::cables;
+use crate::chains::Chain;
 use crate::paths::{JOINTS, Path};
 use crate::reading;
 use crate::rust::ported;
@@ -40,7 +41,7 @@ fn divided(path: &Path, joints: &[f64], tolerances: [f64; 2]) -> String {
     let setup = ported::setup(&chain);
     match ported::subdivide_path(&setup, &path.poses, joints, tolerances) {
         Ok([_, sets]) if sets.len() <= JOINTS * SPACE => {
-            lines(&sets, (sets.len() - joints.len()) / JOINTS)
+            lines(&chain, &sets, (sets.len() - joints.len()) / JOINTS)
         }
         Err(words) if words != "toolpath `p` inserts more than 10000 poses" => {
             panic!("the Rust refuses to divide with '{words}'")
@@ -49,21 +50,20 @@ fn divided(path: &Path, joints: &[f64], tolerances: [f64; 2]) -> String {
     }
 }
 
-fn lines(joints: &[f64], inserted: usize) -> String {
-    let sets = || joints.chunks(JOINTS);
-    let most_turns = |slot: usize| {
-        sets()
-            .map(|set| cables::turns(set[slot]))
-            .max()
-            .unwrap_or(0)
+fn lines(chain: &Chain, joints: &[f64], inserted: usize) -> String {
+    let sets = joints.chunks(JOINTS);
+    let most_turns = |rotary: usize| {
+        let winds = cables::winds(chain, joints, rotary);
+        let most = winds.map(cables::turns).max().unwrap_or(0);
+        if rotary < usize::from(chain.count) { most } else { 0 }
     };
     let mut text = format!(
         "poses {} inserted {inserted} turns {} {}\n",
-        sets().len(),
-        most_turns(3),
-        most_turns(4)
+        sets.len(),
+        most_turns(0),
+        most_turns(1)
     );
-    for (index, set) in sets().enumerate() {
+    for (index, set) in sets.enumerate() {
         let bits = set.iter().map(|x| format!(" {:016X}", x.to_bits()));
         writeln!(text, "{index}{}", bits.collect::<String>()).expect("a String takes every text");
     }

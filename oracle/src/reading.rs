@@ -17,19 +17,25 @@ pub fn chain(bytes: &[u8]) -> Read<Chain> {
     if count != 1 && count != 2 {
         return Ok(chain);
     }
-    let spindle = 8 + 72 * usize::from(count);
+    let rotaries = usize::from(count);
+    chain.rested = bytes.len() == 32 + 80 * rotaries;
+    let spindle = 8 + chain.record() * rotaries;
     if bytes.len() != spindle + 24 {
         return Err(0);
     }
     zeros(bytes, 1..8)?;
-    for i in 0..usize::from(count) {
-        chain.rotaries[i] = rotary(bytes, 8 + 72 * i)?;
+    for i in 0..rotaries {
+        let start = 8 + chain.record() * i;
+        chain.rotaries[i] = rotary(bytes, start)?;
+        if chain.rested {
+            [chain.rotaries[i].rest] = numbers(bytes, start + 72);
+        }
     }
     chain.spindle = numbers(bytes, spindle);
     Ok(chain)
 }
 
-/// The rotary that begins at `start`. Its letter is not judged.
+/// The rotary that begins at `start`, without its rest angle. Its letter is not judged.
 fn rotary(bytes: &[u8], start: usize) -> Read<Rotary> {
     let carrier = zero_or_one(bytes, start + 1)?;
     let limited = zero_or_one(bytes, start + 2)?;
@@ -48,6 +54,7 @@ fn rotary(bytes: &[u8], start: usize) -> Read<Rotary> {
         axis: numbers(bytes, start + 8),
         pivot: numbers(bytes, start + 32),
         limits,
+        rest: 0.0,
     })
 }
 
@@ -145,7 +152,7 @@ mod tests {
         }
     }
 
-    /// Each byte of a chain without limits, in turn, made a bad one.
+    /// Each byte of a chain without limits, in turn, made a bad one, with rest angles and without.
     #[test]
     fn a_chain_faults_at_its_bad_byte() {
         let mut sound = sound(&mut Random::new(1));
@@ -153,21 +160,25 @@ mod tests {
         for rotary in &mut sound.rotaries {
             (rotary.limited, rotary.limits) = (0, [0.0; 2]);
         }
-        for at in 1..176 {
-            let mut bytes = sound.bytes();
-            bytes[at] = 0xFF;
-            let place = (at - at.min(8)) % 72;
-            let expected = match (at, place) {
-                (..8, _) => Err(at),
-                (152.., _) => Ok(()),
-                (_, 1..8) => Err(at),
-                (_, 56..72) => Err(at / 8 * 8),
-                _ => Ok(()),
-            };
-            assert_eq!(chain(&bytes).map(|_| ()), expected, "byte {at}");
+        for rested in [false, true] {
+            sound.rested = rested;
+            let (record, length) = (sound.record(), sound.bytes().len());
+            for at in 1..length {
+                let mut bytes = sound.bytes();
+                bytes[at] = 0xFF;
+                let place = (at - at.min(8)) % record;
+                let expected = match (at, place) {
+                    (..8, _) => Err(at),
+                    _ if at >= length - 24 => Ok(()),
+                    (_, 1..8) => Err(at),
+                    (_, 56..72) => Err(at / 8 * 8),
+                    _ => Ok(()),
+                };
+                assert_eq!(chain(&bytes).map(|_| ()), expected, "byte {at}");
+            }
+            assert_eq!(chain(&sound.bytes()[..length - 1]), Err(0));
         }
         assert_eq!(chain(&[]), Err(0));
-        assert_eq!(chain(&sound.bytes()[..175]), Err(0));
         assert_eq!(chain(&[7]).map(|chain| chain.count), Ok(7));
     }
 

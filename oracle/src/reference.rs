@@ -3,7 +3,7 @@
 //! does not use (16) and the sizes (17), each in the place that document 01's order of checks gives it.
 
 use crate::cases::{Case, Entry, FRAME, POSE};
-use crate::chains::{Chain, MOST_PIVOT};
+use crate::chains::{Chain, MOST_PIVOT, MOST_REST};
 use crate::joints::{MOST_ANGLE, MOST_POSITION, MOST_TOOL};
 use crate::models::Link;
 use crate::original::ported::kinematics::Kinematics;
@@ -15,6 +15,8 @@ pub const NOT_FINITE: u32 = 16;
 pub const TOO_LARGE: u32 = 17;
 pub const LENGTHS_DIFFER: u32 = 20;
 const MALFORMED: u32 = 29;
+const NOT_FINITE_IN_CHAIN: u32 = 6;
+const LIMITS: u32 = 8;
 
 const JOINTS: usize = 5;
 
@@ -92,7 +94,7 @@ fn check_model(case: &Case) -> Answer {
 
 fn check(machine: &Machine) -> Answer {
     ported::check(&ported::kinematics(machine)).map_err(|words| refusal(&words, machine))?;
-    if !pivots_fit(machine.chain) {
+    if !chain_fits(machine.chain) {
         return refused(TOO_LARGE);
     }
     Ok(Vec::new())
@@ -105,7 +107,7 @@ fn forward(case: &Case) -> Answer {
     }
     let chain = reading::chain(&case.chain).map_err(malformed)?;
     let machine = bare(&chain);
-    let fit = pivots_fit(&chain) && joints_fit(joints) && !exceeds(tool_length, MOST_TOOL);
+    let fit = chain_fits(&chain) && joints_fit(joints) && !exceeds(tool_length, MOST_TOOL);
     let rust = ported::kinematics(&machine);
     let pose = ported::forward(&rust, &turned(joints, fit), tool_length)
         .map_err(|words| refusal(&words, &machine))?;
@@ -130,7 +132,7 @@ fn link_frame(case: &Case, frame_of: fn(&Kinematics, &[f64], &str) -> Told<Vec<f
         chain: &chain,
         links: &links,
     };
-    let fit = pivots_fit(&chain) && joints_fit(joints);
+    let fit = chain_fits(&chain) && joints_fit(joints);
     let rust = ported::kinematics(&machine);
     let carrier = String::from_utf8_lossy(&case.carrier);
     let frame = match frame_of(&rust, &turned(joints, fit), &carrier) {
@@ -157,9 +159,12 @@ pub fn exceeds(x: f64, most: f64) -> bool {
     x.abs() > most
 }
 
-pub fn pivots_fit(chain: &Chain) -> bool {
-    let mut numbers = chain.present().flat_map(|rotary| rotary.pivot);
-    !numbers.any(|x| exceeds(x, MOST_PIVOT))
+/// The pivots and the rest angles.
+pub fn chain_fits(chain: &Chain) -> bool {
+    chain.present().all(|rotary| {
+        let far = rotary.pivot.iter().any(|&x| exceeds(x, MOST_PIVOT));
+        !far && !exceeds(rotary.rest, MOST_REST)
+    })
 }
 
 /// The angle that the chain may not use too.
@@ -185,13 +190,17 @@ enum Whose {
     AskedCarrier,
 }
 
-/// What the Rust refuses, as a number with its index.
+/// What the Rust refuses, as a number with its index. Limits that it refuses though they are good stand for a rest angle.
 pub fn refusal(words: &str, machine: &Machine) -> Refusal {
     let (number, whose) = cause(words, machine.name_length);
     let at = match whose {
         Whose::NoOne | Whose::AskedCarrier => 0,
         Whose::Rotary => rotary_at_fault(machine.chain),
         Whose::Link => link_at_fault(machine),
+    };
+    let number = match (number, machine.chain.rotaries.get(at as usize)) {
+        (LIMITS, Some(rotary)) if rotary.limits_served() => NOT_FINITE_IN_CHAIN,
+        _ => number,
     };
     Refusal { number, at }
 }
@@ -235,7 +244,7 @@ fn cause_elsewhere(words: &str) -> (u32, Whose) {
         "kinematics name is longer than 256 bytes" => (2, Whose::NoOne),
         "rotary limit minimum must be finite"
         | "rotary limit maximum must be finite"
-        | "rotary limit minimum is not less than maximum" => (8, Whose::Rotary),
+        | "rotary limit minimum is not less than maximum" => (LIMITS, Whose::Rotary),
         "tool length must be finite and non-negative" => (14, Whose::NoOne),
         "tool axis is zero" => (15, Whose::NoOne),
         "tool tip must be finite"
@@ -360,6 +369,37 @@ mod tests {
         assert_eq!(frame(|case| (case.name, case.room) = (Vec::new(), 11)), 20);
     }
 
+    /// Of the first rotary: 4, 5, 6 and 7, 6, 8, and then the rest angle's 6; behind it the second rotary, and the spindle.
+    #[test]
+    fn a_rest_angle_stands_behind_its_limits() {
+        let (case, mut chain) = sound();
+        (chain.count, chain.rested) = (2, true);
+        chain.rotaries[1] = chain.rotaries[0];
+        chain.rotaries[1].letter = b'B';
+        let told = |chain: &Chain| {
+            let chain = chain.bytes();
+            let case = Case {
+                chain,
+                ..case.clone()
+            };
+            let refusal = expected(Entry::CheckChain, &case).err();
+            refusal.map_or((0, 0), |refusal| (refusal.number, refusal.at))
+        };
+        assert_eq!(told(&chain), (0, 0));
+        chain.rotaries[0].rest = 36_000f64.next_up();
+        assert_eq!(told(&chain), (17, 0));
+        chain.spindle = [0.0; 3];
+        assert_eq!(told(&chain), (9, 0));
+        chain.rotaries[1].rest = f64::INFINITY;
+        assert_eq!(told(&chain), (6, 1));
+        chain.rotaries[1].letter = b'A';
+        assert_eq!(told(&chain), (5, 1));
+        chain.rotaries[0].rest = f64::NAN;
+        assert_eq!(told(&chain), (6, 0));
+        (chain.rotaries[0].limited, chain.rotaries[0].limits) = (1, [1.0, 1.0]);
+        assert_eq!(told(&chain), (8, 0));
+    }
+
     #[test]
     fn a_model_is_read_whole_before_it_is_checked() {
         let (mut case, mut chain) = sound();
@@ -386,7 +426,9 @@ mod tests {
             .chain(9..16)
             .chain([64, 72])
             .chain(81..88)
-            .chain([136, 144]);
+            .chain([136, 144])
+            .chain(89..96)
+            .chain([144, 152]);
         let mut all: BTreeSet<(u32, u64)> = fields.map(|at| (29, at)).collect();
         all.extend(rotaries.iter().flatten().chain(&alone));
         let mut random = Random::new(1);

@@ -31,6 +31,7 @@ fn chain(carrier: u8, pivot: f64) -> Vec<u8> {
         zeros: [0; 7],
         rotaries: [rotary, Rotary::default()],
         spindle: [0.0, 0.0, 1.0],
+        rested: false,
     };
     chain.bytes()
 }

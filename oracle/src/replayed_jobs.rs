@@ -3,14 +3,14 @@
 //! and the cable number, which the Rust has not.
 
 use crate::angles::{moved, signed};
-use crate::chains::{self, chain_bytes};
+use crate::chains::{self, Chain, harmed_bytes};
 use crate::floats;
-use crate::joints::{joints, sound_joints};
+use crate::joints::{MOST_ANGLE, joints, sound_joints};
 use crate::random::Random;
 use crate::reading;
 use crate::reference::{
-    LENGTHS_DIFFER, NOT_FINITE, Refusal, TOO_LARGE, bare, finite, joints_fit, malformed,
-    pivots_fit, refusal, refused,
+    LENGTHS_DIFFER, NOT_FINITE, Refusal, TOO_LARGE, bare, chain_fits, finite, joints_fit, malformed,
+    refusal, refused,
 };
 use crate::replayed::{FILLED, FILLED_COUNT, Given, Line, Replayed};
 use crate::rust::ported;
@@ -40,7 +40,9 @@ pub fn examples() -> Vec<Vec<u8>> {
 
 /// A job: chain and poses in either order, with bytes between; half of the time damaged.
 pub fn job(random: &mut Random) -> Vec<u8> {
-    let chain = chains::sound(random).bytes();
+    let chain = chains::sound(random);
+    let word = usize::from(chain.rested);
+    let chain = chain.bytes();
     let count = random.below(5) as usize;
     let poses = some_numbers(POSE * count, random);
     let mut bytes = Vec::new();
@@ -53,7 +55,7 @@ pub fn job(random: &mut Random) -> Vec<u8> {
         chain_at = put(&chain, &mut bytes, random);
     }
     bytes.extend(some_bytes(random));
-    for word in [chain_at, poses_at, count, 0] {
+    for word in [chain_at, poses_at, count, word] {
         bytes.extend((word as u32).to_le_bytes());
     }
     bytes.extend(some_numbers(3, random));
@@ -108,14 +110,14 @@ pub fn of_reader(bytes: &[u8]) -> Option<Replayed> {
     let line = match job::read(bytes) {
         Ok(job) => {
             let count = job.poses.len() / job::POSE;
-            let places = [job.chain.start, job.poses.start, count];
+            let places = [job.chain.start, job.chain.len(), job.poses.start, count];
             let line = Line::new(entry, 0, 0, 0);
             let line = places.iter().fold(line, |line, n| line.count(*n as u64));
             line.numbers(&[job.cone, job.chord, job.axis])
         }
         Err(breach) => {
             let line = Line::new(entry, breach.number, breach.at as u64, 0);
-            let line = (0..3).fold(line, |line, _| line.count(FILLED_COUNT));
+            let line = (0..4).fold(line, |line, _| line.count(FILLED_COUNT));
             line.numbers(&[FILLED; 3])
         }
     };
@@ -189,14 +191,15 @@ pub fn of_write(random: &mut Random) -> Option<Replayed> {
 /// The cable number, of a rotary that the chain has or lacks.
 pub fn of_cable(random: &mut Random) -> Option<Replayed> {
     let sound = random.below(2) == 0;
+    let drawn = chains::sound(random);
     let chain = match sound {
-        true => chains::sound(random).bytes(),
-        false => chain_bytes(random),
+        true => drawn.bytes(),
+        false => harmed_bytes(drawn, random),
     };
     let mut path: Vec<f64> = Vec::new();
     for _ in 0..random.below(5) {
         let set = match sound || random.below(2) == 0 {
-            true => wound(random),
+            true => wound(&drawn, random),
             false => joints(random),
         };
         path.extend(set);
@@ -216,18 +219,20 @@ pub fn of_cable(random: &mut Random) -> Option<Replayed> {
     Replayed::new(line, &given)
 }
 
-/// Joints that are served, at times with an angle at a whole number of turns, or a place from it.
-fn wound(random: &mut Random) -> Vec<f64> {
+/// Joints that are served, at times with an angle at a whole number of turns from the rest angle, or a place from it.
+fn wound(chain: &Chain, random: &mut Random) -> Vec<f64> {
     let mut set = sound_joints(random);
     if random.below(2) == 0 {
         let turns = 360.0 * (1 + random.below(99)) as f64;
-        let slot = 3 + random.below(2) as usize;
-        set[slot] = moved(signed(turns, random), 1, random);
+        let slot = random.below(2) as usize;
+        let angle = chain.rotaries[slot].rest + signed(turns, random);
+        set[3 + slot] = moved(angle, 1, random).clamp(-MOST_ANGLE, MOST_ANGLE);
     }
     set
 }
 
-/// The largest whole k with 360 k at most the size of some angle: whole degrees are compared, since a division rounds.
+/// The largest whole k with 360 k at most the size of some difference from the rest angle: whole degrees are compared, since a
+/// division rounds.
 fn cable_number(chain: &[u8], joints: &[f64], rotary: usize) -> Result<u64, Refusal> {
     if !joints.len().is_multiple_of(JOINTS) {
         return refused(LENGTHS_DIFFER);
@@ -238,13 +243,14 @@ fn cable_number(chain: &[u8], joints: &[f64], rotary: usize) -> Result<u64, Refu
     if !finite(joints) {
         return refused(NOT_FINITE);
     }
-    if !pivots_fit(&chain) || !joints.chunks(JOINTS).all(joints_fit) {
+    if !chain_fits(&chain) || !joints.chunks(JOINTS).all(joints_fit) {
         return refused(TOO_LARGE);
     }
     if rotary >= usize::from(chain.count) {
         return Ok(0);
     }
-    let whole = |set: &[f64]| set[3 + rotary].abs().floor() as u64;
+    let rest = chain.rotaries[rotary].rest;
+    let whole = |set: &[f64]| (set[3 + rotary] - rest).abs().floor() as u64;
     let degrees = joints.chunks(JOINTS).map(whole).max();
     Ok(degrees.map_or(0, |degrees| degrees / 360))
 }

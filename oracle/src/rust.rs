@@ -3,6 +3,9 @@
 //!
 //! Names are bytes here and texts there. The Rust asks of a name only whether it is empty, how long it is and whether it is equal
 //! to another, so each has a stand-in of which all three are the same, and which a refusal's words can quote without harm.
+//!
+//! The Rust knows no rest angle. One that is finite is left out. One that is not must be refused directly behind the limits: there the
+//! Rust gets limits that it refuses, unless it refuses the rotary's own.
 
 use crate::chains::Chain;
 use crate::models::Link;
@@ -67,6 +70,9 @@ macro_rules! on_plain_numbers {
 
             fn joint(rotary: &Rotary) -> RotaryJoint {
                 let [min, max] = rotary.limits;
+                let limits = (rotary.limited == 1).then(|| RotaryLimits::unchecked(min, max));
+                let refused = || RotaryLimits::unchecked(f64::NAN, f64::NAN);
+                let stand_in = rotary.limits_served() && !rotary.rest.is_finite();
                 RotaryJoint {
                     letter: char::from(rotary.letter),
                     carrier: match rotary.carrier {
@@ -75,7 +81,7 @@ macro_rules! on_plain_numbers {
                     },
                     axis: vector(&rotary.axis),
                     pivot: vector(&rotary.pivot),
-                    limits: (rotary.limited == 1).then(|| RotaryLimits::unchecked(min, max)),
+                    limits: if stand_in { Some(refused()) } else { limits },
                 }
             }
 

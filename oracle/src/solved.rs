@@ -9,7 +9,7 @@ use crate::maztubel::{self, Course};
 use crate::original::ported::kinematics::FiveAxisSetup;
 use crate::paths::{JOINTS, MOST_TIP, POSE, Path};
 use crate::reading;
-use crate::reference::{bare, exceeds, finite, joints_fit, pivots_fit, refusal};
+use crate::reference::{bare, exceeds, finite, joints_fit, chain_fits, refusal};
 use crate::rust::ported;
 use crate::stops;
 
@@ -70,7 +70,7 @@ pub fn expected(path: &Path) -> Answer {
     }
     ported::solve_path(&setup, &[], &path.start, path.cone).map_err(number)?;
     let start_fits = path.start.is_empty() || joints_fit(&path.start);
-    if !pivots_fit(&chain) || !start_fits || count > MOST_POSES {
+    if !chain_fits(&chain) || !start_fits || count > MOST_POSES {
         return Err(before(17, 0));
     }
     if room < count {

@@ -2,12 +2,13 @@
 //! port reads from a job that was written is what it was written from, and is written again to the same bytes; and that
 //! a job with gaps, read and written, has none.
 
+use crate::chains::MOST_REST;
 use crate::met::{Account, Differences, Met};
 use crate::parts::Outcome;
 use crate::paths::{MOST_TIP, POSE};
 use crate::random::Random;
 use crate::reading;
-use crate::reference::{Refusal, exceeds, pivots_fit};
+use crate::reference::{Refusal, chain_fits, exceeds};
 use crate::writes::{Case, FAULTS, Wrote, ask, expected, most_poses, read, telling};
 use job::MOST_BYTES;
 use std::process::ExitCode;
@@ -20,7 +21,7 @@ const AGAIN: usize = 2;
 const GAPS: usize = 3;
 
 /// What a call can answer.
-const SERVED: [&str; 14] = [
+const SERVED: [&str; 18] = [
     "served",
     "served, no poses",
     "served, just room",
@@ -35,8 +36,12 @@ const SERVED: [&str; 14] = [
     "served, the largest limits",
     "served, limits a double apart",
     "served, limits of -0.0 and a subnormal number",
+    "served, rest angles",
+    "served, a rest angle of -0.0 and no other",
+    "served, rest angles of +0.0, which are left out",
+    "served, the most poses, with rest angles",
 ];
-const REFUSED: [&str; 20] = [
+const REFUSED: [&str; 21] = [
     "20",
     "29",
     "3",
@@ -57,6 +62,7 @@ const REFUSED: [&str; 20] = [
     "28",
     "28, a byte short",
     "8, equal limits",
+    "17, a rest angle",
 ];
 
 #[derive(Default)]
@@ -110,8 +116,9 @@ impl WriteTally {
     fn compare_round_trip(&mut self, case: &Case, wrote: &Wrote) {
         let job = &wrote.lent()[..case.length()];
         let back = read(job);
-        let same = back.as_ref().is_some_and(|back| back.same_parts(case));
-        self.count(READ_BACK, same && placed(job, case), case);
+        let given = case.in_job();
+        let same = back.as_ref().is_some_and(|back| back.same_parts(&given));
+        self.count(READ_BACK, same && placed(job, &given), case);
         let again = back.map(|back| ask(&back));
         let same = again.is_some_and(|again| again.number == 0 && again.lent() == job);
         self.count(AGAIN, same, case);
@@ -227,6 +234,9 @@ fn served(case: &Case, length: usize) -> [bool; SERVED.len()] {
         let mut limited = chain.present().filter(|rotary| rotary.limited == 1);
         limited.any(|rotary| test(rotary.limits))
     };
+    let full = case.poses.len() == POSE * most_poses(&case.chain);
+    let rested = chain.present().any(|rotary| rotary.rest.to_bits() != 0);
+    let nought = chain.present().all(|rotary| rotary.rest == 0.0);
     [
         true,
         case.poses.is_empty(),
@@ -238,10 +248,14 @@ fn served(case: &Case, length: usize) -> [bool; SERVED.len()] {
         tips().any(|x| x.to_bits() == (-0.0f64).to_bits()),
         case.poses.iter().any(|x| x.is_subnormal()),
         case.poses.chunks(POSE).any(zero),
-        case.poses.len() == POSE * most_poses(&case.chain),
+        full,
         limits(|limits| limits == [-f64::MAX, f64::MAX]),
         limits(|[least, largest]| largest == least.next_up()),
         limits(|[least, largest]| least.to_bits() == 1 << 63 && largest.is_subnormal()),
+        rested,
+        rested && nought,
+        chain.rested && !rested,
+        full && rested,
     ]
 }
 
@@ -266,11 +280,17 @@ fn refused(case: &Case, number: u32) -> Vec<&'static str> {
             vec![if tip { REFUSED[12] } else { REFUSED[13] }]
         }
         17 => {
-            let pivot = reading::chain(&case.chain).is_ok_and(|chain| !pivots_fit(&chain));
+            let chain = reading::chain(&case.chain).expect("a chain that is read");
+            let rest = chain.present().any(|rotary| exceeds(rotary.rest, MOST_REST));
             let tip = tip(|x| exceeds(x, MOST_TIP));
-            let met = [pivot, tip, case.length() > MOST_BYTES];
-            let met = REFUSED[14..17].iter().zip(met).filter(|(_, met)| *met);
-            met.map(|(what, _)| *what).collect()
+            let met = [
+                (14, !chain_fits(&chain) && !rest),
+                (15, tip),
+                (16, case.length() > MOST_BYTES),
+                (20, rest),
+            ];
+            let met = met.into_iter().filter(|(_, met)| *met);
+            met.map(|(what, _)| REFUSED[what]).collect()
         }
         28 if case.room + 1 == case.length() => vec![REFUSED[17], REFUSED[18]],
         number => vec![words(number).expect("a number that a writer refuses with")],
@@ -318,7 +338,25 @@ mod tests {
         GUARD + case.length() - TRAILER + at
     }
 
-    const WRONG: [(&str, Wrong); 9] = [
+    const WRONG: [(&str, Wrong); 11] = [
+        ("-0.0 left out as a rest angle", |case, wrote| {
+            let chain = reading::chain(&case.chain);
+            let mut chain = chain.unwrap_or_default();
+            if wrote.number == 0 && chain.present().all(|rotary| rotary.rest == 0.0) {
+                for rotary in &mut chain.rotaries {
+                    rotary.rest = 0.0;
+                }
+                let job = packed(&chain, &case.poses, case.numbers);
+                wrote.length[1] = job.len() as u64;
+                wrote.bytes[GUARD..GUARD + job.len()].copy_from_slice(&job);
+            }
+        }),
+        ("the word 0 with rest angles", |case, wrote| {
+            if wrote.number == 0 {
+                let at = of_trailer(case, 12);
+                wrote.bytes[at] = 0;
+            }
+        }),
         ("cone and chord swapped", |case, wrote| {
             if wrote.number == 0 {
                 let at = of_trailer(case, 16);

@@ -4,7 +4,7 @@
 
 use crate::angles::within;
 use crate::calls::{GUARD, Guarded, LENT_AT, LENT_LETTER};
-use crate::chains::{Chain, chain_bytes, push_numbers, slot, sound};
+use crate::chains::{Chain, MOST_REST, chain_bytes, push_numbers, slot, sound};
 use crate::floats::{self, subnormal};
 use crate::jobs::Content;
 use crate::maztubel::{self, Parts};
@@ -13,7 +13,7 @@ use crate::paths::{MOST_TIP, POSE};
 use crate::random::Random;
 use crate::reading;
 use crate::reference::{
-    LENGTHS_DIFFER, NOT_FINITE, Refusal, TOO_LARGE, bare, exceeds, finite, malformed, pivots_fit,
+    LENGTHS_DIFFER, NOT_FINITE, Refusal, TOO_LARGE, bare, exceeds, finite, malformed, chain_fits,
     refusal, refused,
 };
 use crate::rust::ported;
@@ -100,7 +100,15 @@ impl Case {
 
     /// As many bytes as the job has, where it is one.
     pub fn length(&self) -> usize {
-        self.chain.len() + 8 * self.poses.len() + TRAILER
+        as_written(&self.chain).len() + 8 * self.poses.len() + TRAILER
+    }
+
+    /// With the chain's bytes as they stand in the job.
+    pub fn in_job(&self) -> Self {
+        Case {
+            chain: as_written(&self.chain),
+            ..self.clone()
+        }
     }
 
     /// The last first, so that the room is short for a job that nothing else changes.
@@ -150,7 +158,7 @@ impl Case {
         &mut self.poses[POSE * pose + random.below(of) as usize]
     }
 
-    /// A tip or a pivot that is too large, or too many poses.
+    /// A tip, a pivot or a rest angle that is too large, or too many poses.
     fn oversize(&mut self, random: &mut Random) {
         match random.below(32) {
             0 => {
@@ -158,14 +166,21 @@ impl Case {
                 let count = most_poses(&self.chain) + 1 + more;
                 self.poses.resize(POSE * count, 0.0);
             }
-            1..=9 => {
-                let at = 8 + 32 + 8 * slot(random);
-                let pivot = finite_oversized(random).to_le_bytes();
-                if let Some(field) = self.chain.get_mut(at..at + 8) {
-                    field.copy_from_slice(&pivot);
-                }
+            1..=6 => {
+                let pivot = finite_oversized(random);
+                self.set_in_chain(8 + 32 + 8 * slot(random), pivot);
+            }
+            7..=9 if reading::chain(&self.chain).is_ok_and(|chain| chain.rested) => {
+                let rest = random.one_of(&[1.0, -1.0]) * MOST_REST.next_up();
+                self.set_in_chain(8 + 72, rest);
             }
             _ => *self.some_number(3, random) = finite_oversized(random),
+        }
+    }
+
+    fn set_in_chain(&mut self, at: usize, number: f64) {
+        if let Some(field) = self.chain.get_mut(at..at + 8) {
+            field.copy_from_slice(&number.to_le_bytes());
         }
     }
 
@@ -198,14 +213,28 @@ impl Case {
 
 /// So many poses fit with this chain.
 pub fn most_poses(chain: &[u8]) -> usize {
-    (MOST_BYTES - TRAILER - chain.len()) / (8 * POSE)
+    (MOST_BYTES - TRAILER - as_written(chain).len()) / (8 * POSE)
+}
+
+/// A chain's bytes as a job has them: without rest angles where every one is +0.0, by its bits.
+fn as_written(bytes: &[u8]) -> Vec<u8> {
+    match reading::chain(bytes) {
+        Ok(chain) if (1..=2).contains(&chain.count) => written(chain).bytes(),
+        _ => bytes.to_vec(),
+    }
+}
+
+fn written(mut chain: Chain) -> Chain {
+    let rested = chain.present().any(|rotary| rotary.rest.to_bits() != 0);
+    chain.rested = rested;
+    chain
 }
 
 /// The bytes of a chain that is served.
 fn served_chain(random: &mut Random) -> Vec<u8> {
     loop {
         let bytes = sound(random).bytes();
-        if checked(&bytes).is_ok_and(|chain| pivots_fit(&chain)) {
+        if checked(&bytes).is_ok_and(|chain| chain_fits(&chain)) {
             return bytes;
         }
     }
@@ -328,7 +357,7 @@ pub fn expected(case: &Case) -> Result<Vec<u8>, Refusal> {
     }
     let job = packed(&chain, &case.poses, case.numbers);
     let far = |pose: &[f64]| pose[..3].iter().any(|x| exceeds(*x, MOST_TIP));
-    if !pivots_fit(&chain) || case.poses.chunks(POSE).any(far) || job.len() > MOST_BYTES {
+    if !chain_fits(&chain) || case.poses.chunks(POSE).any(far) || job.len() > MOST_BYTES {
         return refused(TOO_LARGE);
     }
     if case.room < job.len() {
@@ -339,8 +368,10 @@ pub fn expected(case: &Case) -> Result<Vec<u8>, Refusal> {
 
 /// A job from its fields.
 pub fn packed(chain: &Chain, poses: &[f64], numbers: [f64; 3]) -> Vec<u8> {
+    let chain = written(*chain);
     let mut bytes = chain.bytes();
-    let words = [0, bytes.len(), poses.len() / POSE, 0];
+    let word = usize::from(chain.rested);
+    let words = [0, bytes.len(), poses.len() / POSE, word];
     push_numbers(&mut bytes, poses);
     for word in words {
         bytes.extend((word as u32).to_le_bytes());
@@ -417,12 +448,11 @@ pub fn telling(case: &Case, answer: &Result<Vec<u8>, Refusal>) -> Wrote {
 
 /// What the port reads from a job, to be written again into as many bytes as it has; none where it is refused.
 pub fn read(job: &[u8]) -> Option<Case> {
-    let (mut places, mut numbers, mut at) = ([0; 3], [0.0; 3], 0);
+    let (mut places, mut numbers, mut at) = ([0; 4], [0.0; 3], 0);
     if maztubel::read_job(job, places.each_mut(), numbers.each_mut(), &mut at) != 0 {
         return None;
     }
-    let [chain_at, _, count] = places.map(|place| place as usize);
-    let length = 32 + 72 * usize::from(job[chain_at]);
+    let [chain_at, length, _, count] = places.map(|place| place as usize);
     let mut poses = vec![0.0; POSE * count];
     if maztubel::job_poses(job, &mut poses, &mut at) != 0 {
         return None;

@@ -40,6 +40,7 @@ fn tables() -> Chain {
         axis,
         pivot: [0.0, 0.0, -100.0],
         limits,
+        rest: 0.0,
     };
     let tilt = Some(Limits {
         min: -120.0,

@@ -35,6 +35,9 @@ pub struct Rotary {
     pub pivot: [f64; 3],
     /// None where it turns without end.
     pub limits: Option<Limits>,
+    /// The angle in degrees at which the cable hangs free, at most 36,000 in size, 0.0 on most machines. Cable turns
+    /// are counted from it ([`cable_number`](crate::cable_number)); nothing else depends on it.
+    pub rest: f64,
 }
 
 /// A chain: one or two rotaries and the spindle.
@@ -42,7 +45,7 @@ pub struct Rotary {
 /// ```
 /// use maztubel::{Carrier, Chain, Limits, Rotary, check_chain};
 ///
-/// let table = |letter, axis, limits| Rotary { letter, carrier: Carrier::Table, axis, pivot: [0.0; 3], limits };
+/// let table = |letter, axis, limits| Rotary { letter, carrier: Carrier::Table, axis, pivot: [0.0; 3], limits, rest: 0.0 };
 /// let mut chain = Chain {
 ///     rotaries: vec![
 ///         table(b'A', [1.0, 0.0, 0.0], Some(Limits { min: -120.0, max: 30.0 })),
@@ -67,7 +70,8 @@ pub struct Chain {
 }
 
 impl Chain {
-    /// The chain as the library and a job have it (docs/FORMAT.md). More than 255 rotaries count as 255, which is refused alike.
+    /// The chain as the library and a job have it (docs/FORMAT.md): with the rest angles only where one is not +0.0, by its bits.
+    /// More than 255 rotaries count as 255, which is refused alike.
     ///
     /// ```
     /// let empty = maztubel::Chain { rotaries: vec![], spindle: [0.0; 3] };
@@ -76,20 +80,28 @@ impl Chain {
     pub fn bytes(&self) -> Vec<u8> {
         let mut bytes = vec![u8::try_from(self.rotaries.len()).unwrap_or(u8::MAX)];
         bytes.extend([0; 7]);
+        let rested = self.rotaries.iter().any(|rotary| rotary.rest.to_bits() != 0);
         for rotary in &self.rotaries {
             rotary.append(&mut bytes);
+            if rested {
+                append_numbers(&mut bytes, &[rotary.rest]);
+            }
         }
         append_numbers(&mut bytes, &self.spindle);
         bytes
     }
 
-    /// The chain that has these bytes, if they are a chain's: the sibling of [`Chain::bytes`]. No number is judged, nor a letter.
+    /// The chain that has these bytes, if they are a chain's, with rest angles or without: the sibling of [`Chain::bytes`]. No number
+    /// is judged, nor a letter.
     ///
     /// ```
     /// use maztubel::{Carrier, Chain, Place, Rotary};
     ///
-    /// let rotary = Rotary { letter: b'C', carrier: Carrier::Head, axis: [0.0, 0.0, 1.0], pivot: [0.0; 3], limits: None };
-    /// let chain = Chain { rotaries: vec![rotary], spindle: [0.0, 0.0, 1.0] };
+    /// let rotary = Rotary { letter: b'C', carrier: Carrier::Head, axis: [0.0, 0.0, 1.0], pivot: [0.0; 3], limits: None, rest: 0.0 };
+    /// let mut chain = Chain { rotaries: vec![rotary], spindle: [0.0, 0.0, 1.0] };
+    /// assert_eq!(Chain::from_bytes(&chain.bytes()), Ok(chain.clone()));
+    /// chain.rotaries[0].rest = -90.0;
+    /// assert_eq!(chain.bytes().len(), 112);
     /// assert_eq!(Chain::from_bytes(&chain.bytes()), Ok(chain));
     /// assert_eq!(Chain::from_bytes(&[1; 104]).unwrap_err().place, Place::Offset(1));
     /// ```
@@ -99,8 +111,9 @@ impl Chain {
             3 | 29 => Err(Refusal::told(told, false)),
             _ => {
                 let (rotaries, spindle) = bytes[8..].split_at(bytes.len() - 32);
+                let record = rotaries.len() / usize::from(bytes[0]);
                 Ok(Chain {
-                    rotaries: rotaries.chunks_exact(72).map(Rotary::within).collect(),
+                    rotaries: rotaries.chunks(record).map(Rotary::within).collect(),
                     spindle: vector(spindle, 0),
                 })
             }
@@ -109,7 +122,7 @@ impl Chain {
 }
 
 impl Rotary {
-    /// Of 72 bytes that are a rotary's.
+    /// Of 72 bytes that are a rotary's, or 80 with a rest angle.
     fn within(bytes: &[u8]) -> Rotary {
         let (min, max) = (number(bytes, 56), number(bytes, 64));
         Rotary {
@@ -122,6 +135,11 @@ impl Rotary {
             axis: vector(bytes, 8),
             pivot: vector(bytes, 32),
             limits: (bytes[2] == 1).then_some(Limits { min, max }),
+            rest: if bytes.len() == 80 {
+                number(bytes, 72)
+            } else {
+                0.0
+            },
         }
     }
 
@@ -176,6 +194,7 @@ pub fn check_chain(chain: &Chain) -> Result<(), Refusal> {
 ///         axis: [0.0, 0.0, 1.0],
 ///         pivot: [0.0; 3],
 ///         limits: None,
+///         rest: 0.0,
 ///     }],
 ///     spindle: [0.0, 0.0, 1.0],
 /// };

@@ -49,8 +49,10 @@ pub const FIRST_NEGATIVE: u32 = 2;
 /// What the trailer of a job says.
 #[derive(Clone, Copy, Debug, Default, PartialEq)]
 pub struct JobParts {
-    /// The offset of the chain, which has 104 bytes with one rotary and 176 with two.
+    /// The offset of the chain.
     pub chain_at: u64,
+    /// How many bytes the chain has, by its rotaries and by whether they have rest angles.
+    pub chain_length: u64,
     /// The offset of the poses.
     pub poses_at: u64,
     /// How many poses there are.
@@ -555,6 +557,7 @@ pub fn read_job(job: &[u8], parts: &mut JobParts) -> Told {
             job.as_ptr(),
             job.len(),
             &mut parts.chain_at,
+            &mut parts.chain_length,
             &mut parts.poses_at,
             &mut parts.count,
             &mut parts.cone,

@@ -22,6 +22,7 @@ pub const MOST_SOLUTIONS: usize = 50;
 ///         axis: [0.0, 0.0, 1.0],
 ///         pivot: [0.0; 3],
 ///         limits: Some(Limits { min: -360.0, max: 360.0 }),
+///         rest: 0.0,
 ///     }],
 ///     spindle: [1.0, 0.0, 0.0],
 /// };
@@ -73,6 +74,7 @@ pub enum Choice {
 ///         axis: [0.0, 0.0, 1.0],
 ///         pivot: [0.0; 3],
 ///         limits: Some(Limits { min: -360.0, max: 360.0 }),
+///         rest: 0.0,
 ///     }],
 ///     spindle: [1.0, 0.0, 0.0],
 /// };

@@ -48,7 +48,7 @@ impl Job {
         let mut poses = vec![Pose::default(); parts.count as usize];
         flat::job_poses(bytes, flat::numbers_mut(&mut poses)).served()?;
         Ok(Job {
-            chain: chain_from(&bytes[parts.chain_at as usize..])?,
+            chain: Chain::from_bytes(&bytes[parts.chain_at as usize..][..parts.chain_length as usize])?,
             poses,
             cone: parts.cone,
             tolerances: Tolerances {
@@ -61,7 +61,7 @@ impl Job {
     /// The bytes of the job: chain, poses and trailer with nothing between them. [`Job::read`] of them gives the job
     /// again, bit for bit, and a file that was written so is written again to the same bytes. Refused are, in this
     /// order, a chain that cannot be served, the cone, a tolerance, a number of a pose that is not finite, and a size:
-    /// of a pivot, of a tip, or a job of more than [`Job::MOST_BYTES`].
+    /// of a pivot, of a rest angle, of a tip, or a job of more than [`Job::MOST_BYTES`].
     ///
     /// ```
     /// use maztubel::Job;
@@ -134,31 +134,28 @@ fn parts(bytes: &[u8]) -> Result<JobParts, Refusal> {
     Ok(parts)
 }
 
-/// Of bytes that start with those of a chain.
-fn chain_from(bytes: &[u8]) -> Result<Chain, Refusal> {
-    let length = 32 + 72 * usize::from(bytes[0]);
-    Chain::from_bytes(&bytes[..length])
-}
-
-/// The cable number of the rotary with this index on a path: the largest whole k with 360 times k at most the size of some of its
-/// angles, 0 on an empty path and for a rotary that the chain lacks.
+/// The cable number of the rotary with this index on a path: the largest whole k with 360 times k at most the size of the difference,
+/// rounded once, of some of its angles and its rest angle; 0 on an empty path and for a rotary that the chain lacks.
 ///
 /// ```
 /// use maztubel::{Carrier, Chain, Joints, Rotary, cable_number};
 ///
-/// let chain = Chain {
+/// let mut chain = Chain {
 ///     rotaries: vec![Rotary {
 ///         letter: b'C',
 ///         carrier: Carrier::Head,
 ///         axis: [0.0, 0.0, 1.0],
 ///         pivot: [0.0; 3],
 ///         limits: None,
+///         rest: 0.0,
 ///     }],
 ///     spindle: [0.0, 0.0, 1.0],
 /// };
 /// let mut path = [90.0, -720.0].map(|angle| Joints { position: [0.0; 3], angles: [angle, 360.0] });
 /// assert_eq!(cable_number(&chain, &path, 0), Ok(2));
 /// assert_eq!(cable_number(&chain, &path, 1), Ok(0));
+/// chain.rotaries[0].rest = 360.0;
+/// assert_eq!(cable_number(&chain, &path, 0), Ok(3));
 ///
 /// path[1].angles[0] = f64::NAN;
 /// assert_eq!(cable_number(&chain, &path, 0).unwrap_err().number(), 16);

@@ -166,7 +166,7 @@ pub fn check_model(machine: &Machine) -> Result<(), Refusal> {
 /// ```
 /// use maztubel::{Carrier, Chain, Joints, Machine, Mount, Rotary, link_world};
 ///
-/// let head = Rotary { letter: b'B', carrier: Carrier::Head, axis: [0.0, 1.0, 0.0], pivot: [0.0; 3], limits: None };
+/// let head = Rotary { letter: b'B', carrier: Carrier::Head, axis: [0.0, 1.0, 0.0], pivot: [0.0; 3], limits: None, rest: 0.0 };
 /// let chain = Chain { rotaries: vec![head], spindle: [0.0, 0.0, 1.0] };
 /// let machine = Machine { name: b"mill".to_vec(), chain, links: vec![] };
 /// let joints = Joints { position: [1.0, 2.0, 3.0], angles: [0.0; 2] };
@@ -183,7 +183,7 @@ pub fn link_world(machine: &Machine, joints: &Joints, mount: Mount) -> Result<Fr
 /// ```
 /// use maztubel::{Carrier, Chain, Joints, Machine, Mount, Rotary, link_in_part};
 ///
-/// let table = Rotary { letter: b'C', carrier: Carrier::Table, axis: [0.0, 0.0, 1.0], pivot: [0.0; 3], limits: None };
+/// let table = Rotary { letter: b'C', carrier: Carrier::Table, axis: [0.0, 0.0, 1.0], pivot: [0.0; 3], limits: None, rest: 0.0 };
 /// let chain = Chain { rotaries: vec![table], spindle: [0.0, 0.0, 1.0] };
 /// let machine = Machine { name: b"mill".to_vec(), chain, links: vec![] };
 /// let joints = Joints { position: [0.0; 3], angles: [0.0; 2] };

@@ -63,6 +63,7 @@ impl Divided {
     ///         axis: [1.0, 0.0, 0.0],
     ///         pivot: [0.0; 3],
     ///         limits: None,
+    ///         rest: 0.0,
     ///     }],
     ///     spindle: [0.0, 0.0, 1.0],
     /// };
@@ -125,6 +126,7 @@ pub fn given_indices(given: &[Joints], divided: &[Joints]) -> Vec<usize> {
 ///         axis: [0.0, 0.0, 1.0],
 ///         pivot: [0.0; 3],
 ///         limits: None,
+///         rest: 0.0,
 ///     }],
 ///     spindle: [1.0, 0.0, 0.0],
 /// };
@@ -187,6 +189,7 @@ pub fn solve_path_into(
 ///         axis: [1.0, 0.0, 0.0],
 ///         pivot: [0.0; 3],
 ///         limits: None,
+///         rest: 0.0,
 ///     }],
 ///     spindle: [0.0, 0.0, 1.0],
 /// };
@@ -242,6 +245,7 @@ pub fn subdivide_path(
 ///         axis: [0.0, 0.0, 1.0],
 ///         pivot: [0.0; 3],
 ///         limits: None,
+///         rest: 0.0,
 ///     }],
 ///     spindle: [0.0, 0.0, 1.0],
 /// };
@@ -287,6 +291,7 @@ pub fn subdivide_path_into(
 ///         axis: [1.0, 0.0, 0.0],
 ///         pivot: [0.0; 3],
 ///         limits: None,
+///         rest: 0.0,
 ///     }],
 ///     spindle: [0.0, 0.0, 1.0],
 /// };

@@ -171,6 +171,7 @@ unsafe extern "C" {
         job: *const u8,
         job_length: usize,
         chain_at: &mut u64,
+        chain_length: &mut u64,
         poses_at: &mut u64,
         count: &mut u64,
         cone: &mut f64,

@@ -67,7 +67,7 @@ reasons! {
     RotaryCount = 3, "a chain must have 1 or 2 rotaries";
     RotaryLetter = 4, "a rotary's letter must be A, B or C";
     LetterTwice = 5, "two rotaries must have different letters";
-    ChainNotFinite = 6, "a rotary's axis and pivot and the spindle axis must be finite";
+    ChainNotFinite = 6, "a rotary's axis, pivot and rest angle and the spindle axis must be finite";
     RotaryAxisZero = 7,
         "a rotary's axis must have a direction (a component above 1e-15 in size, a length that does not overflow)";
     LimitsRefused = 8, "a rotary's limits must be finite, the lower below the upper";
@@ -88,8 +88,8 @@ reasons! {
          written tool axes too";
     TooLarge = 17,
         "sizes must be at most 100,000 mm (tip, pivot, tool length), 10,000,000 mm (joint position), 36,000 degrees \
-         (angle, hint), 100,000 poses, 65,536 bytes (a job that is written), 800 radians (sine, cosine), 1 (arccosine), \
-         and finite (arctangent)";
+         (angle, rest angle, hint), 100,000 poses, 65,536 bytes (a job that is written), 800 radians (sine, cosine), 1 \
+         (arccosine), and finite (arctangent)";
     Cone = 18, "the cone must be finite, above 0 and at most 10 degrees";
     Tolerance = 19, "the chord tolerance (mm) and the axis tolerance (degrees) must be finite and above 0";
     LengthsDiffer = 20,

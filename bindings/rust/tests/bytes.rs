@@ -84,15 +84,26 @@ const OF_A_CHAIN: [OfAChain; 12] = [
     }),
 ];
 
-/// With another count of rotaries there is nothing to read behind it, and the chain check refuses the count.
+/// With another count of rotaries there is nothing to read behind it, and the chain check refuses the count. With the
+/// length of the same count without rest angles, or with them, another chain is read, which is left out here.
 #[test]
 fn of_chains() {
     let mut fence = Fenced::new(200);
-    for (count, whole) in [(1, Some(104)), (2, Some(176)), (0, None), (3, None)] {
-        let mut long = if count == 1 { table_a() } else { tables() }.bytes();
-        long.resize(196, 0);
+    for (count, whole, other) in [
+        (1, Some(104), Some(112)),
+        (1, Some(112), Some(104)),
+        (2, Some(176), Some(192)),
+        (2, Some(192), Some(176)),
+        (0, None, None),
+        (3, None, None),
+    ] {
+        let mut chain = if count == 1 { table_a() } else { tables() };
+        chain.rotaries[0].rest = if whole < other { 0.0 } else { 0.25 };
+        let mut long = chain.bytes();
+        assert!(whole.is_none_or(|whole| whole == long.len()));
+        long.resize(200, 0);
         long[0] = count;
-        for length in 0..=long.len() {
+        for length in (0..=long.len()).filter(|length| Some(*length) != other) {
             let expected = match whole {
                 Some(whole) if length == whole => 0,
                 None if length > 0 => 3,
@@ -109,6 +120,7 @@ fn of_chains() {
 
 const PARTS: JobParts = JobParts {
     chain_at: 9,
+    chain_length: 9,
     poses_at: 9,
     count: 9,
     cone: BEFORE,
@@ -123,6 +135,7 @@ fn read_apart(bytes: &[u8]) -> (u32, u64, JobParts) {
         Ok(job) => {
             let parts = JobParts {
                 chain_at: job.chain.start as u64,
+                chain_length: job.chain.len() as u64,
                 poses_at: job.poses.start as u64,
                 count: (job.poses.len() / job::POSE) as u64,
                 cone: job.cone,

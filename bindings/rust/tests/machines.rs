@@ -45,6 +45,7 @@ fn rotary(line: &str) -> Rotary {
         axis: these(line, "axis"),
         pivot: these(line, "pivot"),
         limits: limits.map(|[min, max]| Limits { min, max }),
+        rest: 0.0,
     }
 }
 

@@ -446,6 +446,50 @@ fn jobs() {
     job_refused(29, malformed(15), |b| b[15] = 1);
     job_refused(29, malformed(64), |b| b[71] = 0x80);
     job_refused(29, malformed(72), |b| b[79] = 0x80);
+    job_refused(29, malformed(TRAILER + 4), |b| b[TRAILER + 12] = 1);
+    job_refused(29, malformed(TRAILER + 12), |b| b[TRAILER + 12] = 2);
+}
+
+/// A rest angle: the word that says so, what is written where all are +0.0, and what is refused behind the limits.
+#[test]
+fn rest_angles() {
+    let job = |rest| Job {
+        chain: changed(|c| c.rotaries[1].rest = rest),
+        poses: arc(2),
+        cone: 1.0,
+        tolerances: TOLERANCES,
+    };
+    for (rest, length, word) in [(0.0, 176, 0), (-0.0, 192, 1), (-90.0, 192, 1)] {
+        let bytes = job(rest).to_bytes().unwrap();
+        let read = Job::read(&bytes).unwrap();
+        assert_eq!(bytes.len(), length + 96 + 40);
+        assert_eq!(bytes[length + 96 + 12], word);
+        let again = read.chain.rotaries[1].rest;
+        assert_eq!(again.to_bits(), f64::to_bits(rest));
+        assert_eq!(read.to_bytes().unwrap(), bytes);
+    }
+    let rested = job_bytes(&changed(|c| c.rotaries[0].rest = 1.0), &[]);
+    let mut nought = rested.clone();
+    nought[80..88].fill(0);
+    let read = Job::read(&nought).unwrap();
+    assert_eq!(read.to_bytes().unwrap(), job_bytes(&tables(), &[]));
+    for (rest, number, place) in [
+        (f64::NAN, 6, Place::Rotary(0)),
+        (36_000.00000000001, 5, Place::Rotary(1)),
+    ] {
+        chain_refused(number, place, |c| {
+            c.rotaries[0].rest = rest;
+            c.rotaries[1].letter = b'A';
+        });
+    }
+    let infinite = |c: &mut Chain| c.rotaries[1].rest = f64::NEG_INFINITY;
+    chain_refused(6, Place::Rotary(1), infinite);
+    let far = |c: &mut Chain| c.rotaries[1].rest = -36_000.00000000001;
+    chain_refused(17, Place::Whole, far);
+    chain_refused(8, Place::Rotary(1), |c| {
+        c.rotaries[1].rest = f64::NAN;
+        c.rotaries[1].limits = Some(Limits { min: 1.0, max: 1.0 });
+    });
 }
 
 /// The chain and the numbers of a job are for the calls to judge.
@@ -541,10 +585,20 @@ fn written_jobs() {
     }
 }
 
-/// The longest jobs with one rotary and with two; a pose more is 17, also where there is no space for it.
+/// The longest jobs with one rotary and with two, with a rest angle and without; a pose more is 17, also where there is
+/// no space for it.
 #[test]
 fn longest_jobs() {
-    for (chain, most) in [(head_c(Z, None), 1362), (tables(), 1360)] {
+    let rested = |mut chain: Chain| {
+        chain.rotaries[0].rest = 90.0;
+        chain
+    };
+    for (chain, most) in [
+        (head_c(Z, None), 1362),
+        (tables(), 1360),
+        (rested(head_c(Z, None)), 1362),
+        (rested(tables()), 1360),
+    ] {
         let job = |count| Job {
             chain: chain.clone(),
             poses: arc(count),

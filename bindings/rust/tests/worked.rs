@@ -267,3 +267,24 @@ fn cable_numbers() {
     assert_eq!(cable_number(&head_c(Z, None), &wound, 1), Ok(0));
     assert_eq!(cable_number(&tables(), &path(&[500.0; 110_000]), 0), Ok(1));
 }
+
+/// From the rest angle, the difference rounded once: 359.9 and -0.1 are exactly less than a turn apart, in floats a turn.
+#[test]
+fn cable_numbers_from_a_rest_angle() {
+    let turns = |angle: f64, rest: f64| {
+        let mut chain = tables();
+        chain.rotaries[0].rest = rest;
+        let joints = Joints {
+            position: [0.0; 3],
+            angles: [angle, 0.0],
+        };
+        cable_number(&chain, &[joints], 0).unwrap()
+    };
+    assert_eq!(turns(359.9, -0.1), 1);
+    assert_eq!(turns(720.0, 1e-14), 2);
+    assert_eq!(turns(810.0, -270.0), 3);
+    assert_eq!(turns(-270.0, 90.0), 1);
+    assert_eq!(turns(-270.0, -90.0), 0);
+    assert_eq!(turns(36_000.0, -36_000.0), 200);
+    assert_eq!(turns(360.0, -0.0), 1);
+}

@@ -42,7 +42,7 @@ two-past l at h =
     rw (byte-past l at h, byte-past l (at + 1) h') at (two-is l at)
 
 -- which patterns are a nan's
-the-nan : (x : Float) → isNan x ≡ true → x ≡ nan
+pub the-nan : (x : Float) → isNan x ≡ true → x ≡ nan
 unfolding isNan
 the-nan nan e = refl
 the-nan (inf s) e = cc
@@ -86,3 +86,18 @@ module _ (l : List ℕ) (i e : ℕ) (within : i < e) where
   pub zeros-found : (getD l i 0 ≡ 0 → ⊥) → zeros l i (e - i) ≡ Refused (refusal malformed i)
   unfolding zeros
   zeros-found q = rw (left-over, ne-eqb _ _ q)
+
+-- ---- records of w bytes in a chain
+pub room-two : (w c n : ℕ) → c ≡ 2 → 32 + w * c ≤ n → 32 + w + w ≤ n
+room-two w c n e h =
+    let g : 32 + w * 2 ≤ n = rw e at h in
+    omega (arith, g)
+
+pub room-one : (w c n : ℕ) → 1 ≤ c → 32 + w * c ≤ n → 32 + w ≤ n
+room-one w zero n l h = absurd (omega arith)
+room-one w (suc c) n l h =
+    let e : w * suc c ≡ w * c + w = omega arith in
+    omega (arith, h, e)
+
+pub product-most : (w c : ℕ) → w ≤ 80 → c ≤ 255 → w * c ≤ 20400
+product-most w c h l = native.Mathlib.Nat.mul-le-mul h l

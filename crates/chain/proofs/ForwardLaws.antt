@@ -18,7 +18,7 @@ use Rattle.chain.specs.declared.ChainRead.{ChainRead}
 use Rattle.chain.specs.declared.ChainRead.the-variants as ChainRead
 use Rattle.chain.specs.declared.Ready.{Ready}
 use Rattle.chain.specs.declared.Ready.the-variants.{Served, Unserved}
-use Rattle.chain.specs.Check.{demand, then, chainCheck, within, allWithin, longest, farthest, mostTurned, jointsFinite, jointsWithin, pivotsWithin}
+use Rattle.chain.specs.Check.{demand, then, chainCheck, within, allWithin, longest, farthest, mostTurned, jointsFinite, jointsWithin, chainWithin}
 use Rattle.chain.specs.Prepared.{prepared}
 use Rattle.chain.specs.Forward.{turnsOf, reach, posed, lengthGood, forwardSizes, forwardCheck, unlessRefused, forward, forwardRead}
 use Rattle.chain.specs.ChainBytes.{readChain}
@@ -55,11 +55,11 @@ any-order f n c g t w p length joints = same _ _ forth back
         let e = both c p (a .1) in
         rw (length (d .1), d .0, e .0, joints (b .1), d .1, b .1, e .1)
 
-check-passed : (k : Kinematics) (j : Joints) (tool : Float) → passed (forwardCheck k j tool) ≡ (numbersGood j tool && (passed (chainCheck k) && pivotsWithin k))
+check-passed : (k : Kinematics) (j : Joints) (tool : Float) → passed (forwardCheck k j tool) ≡ (numbersGood j tool && (passed (chainCheck k) && chainWithin k))
 unfolding forwardCheck numbersGood lengthGood forwardSizes
 check-passed k j tool =
-    listed (finite tool && not (Ieee.lt tool nought)) (chainCheck k) (jointsFinite j) (within tool longest && jointsWithin j && pivotsWithin k)
-    ∙ any-order (finite tool) (not (Ieee.lt tool nought)) (passed (chainCheck k)) (jointsFinite j) (within tool longest) (jointsWithin j) (pivotsWithin k) (within-finite longest over-longest tool) (joints-finite j)
+    listed (finite tool && not (Ieee.lt tool nought)) (chainCheck k) (jointsFinite j) (within tool longest && jointsWithin j && chainWithin k)
+    ∙ any-order (finite tool) (not (Ieee.lt tool nought)) (passed (chainCheck k)) (jointsFinite j) (within tool longest) (jointsWithin j) (chainWithin k) (within-finite longest over-longest tool) (joints-finite j)
   where
     listed : (a : Bool) (c : Checked) (g s : Bool) → passed (then (demand a toolLength 0) (then c (then (demand g notFinite 0) (demand s tooLarge 0)))) ≡ (a && (passed c && (g && s)))
     listed false c g s = refl
@@ -85,8 +85,8 @@ served : (read : ChainRead) (j : Joints) (tool : Float) (p : Prepared) → ready
 unfolding readyOf forward
 served (ChainRead.Refused r) j tool p h n = absurd (false≢true (ap is-served h))
 served (ChainRead.Chain k) j tool p h n =
-    let s = served-parts (passed (chainCheck k) && pivotsWithin k) (prepared k) p h in
-    let e : (numbersGood j tool && (passed (chainCheck k) && pivotsWithin k)) ≡ true = rw (n, s .0) in
+    let s = served-parts (passed (chainCheck k) && chainWithin k) (prepared k) p h in
+    let e : (numbersGood j tool && (passed (chainCheck k) && chainWithin k)) ≡ true = rw (n, s .0) in
     rw (is-passed (forwardCheck k j tool) (check-passed k j tool ∙ e), s .1)
 
 unserved : (read : ChainRead) (j : Joints) (tool : Float) → (numbersGood j tool ≡ false) ⊎ (readyRead read ≡ Unserved) → refusedRead read j tool ≡ forwardRead read j tool
@@ -101,27 +101,27 @@ unserved (ChainRead.Chain k) j tool h = go (forwardCheck k j tool) refl
         refuse (inl n) p = true≢false (sym (p .0) ∙ n)
         refuse (inr u) p = true≢false (sym (ap (λ (z : Bool). is-served (cond z (Served (prepared k)) Unserved)) (p .1)) ∙ ap is-served (r ∙ u))
 
-    opened : cond (passed (chainCheck k) && pivotsWithin k) (Served (prepared k)) Unserved ≡ readyOf k
+    opened : cond (passed (chainCheck k) && chainWithin k) (Served (prepared k)) Unserved ≡ readyOf k
     opened = unfold readyOf in refl
 
     go : (c : Checked) → forwardCheck k j tool ≡ c → refusedBy c ≡ unlessRefused c (posed (reach (prepared k) (turnsOf (prepared k) (j .a0) (j .a1)) (j .xyz) tool))
     go (Checked.Refused r) e = refl
-    go Checked.Passed e = absurd (clash (passed (chainCheck k) && pivotsWithin k) (sym (check-passed k j tool) ∙ ap passed e) opened)
+    go Checked.Passed e = absurd (clash (passed (chainCheck k) && chainWithin k) (sym (check-passed k j tool) ∙ ap passed e) opened)
 
 -- the same of bytes
 module _ (bytes : List ℕ) (j : Joints) (tool : Float) where
-  pub served-from : (p : Prepared) → ready bytes ≡ Served p → numbersGood j tool ≡ true → posed (reach p (turnsOf p (j .a0) (j .a1)) (j .xyz) tool) ≡ forwardRead (readChain 72 bytes) j tool
+  pub served-from : (p : Prepared) → ready bytes ≡ Served p → numbersGood j tool ≡ true → posed (reach p (turnsOf p (j .a0) (j .a1)) (j .xyz) tool) ≡ forwardRead (readChain bytes) j tool
   unfolding ready
-  served-from p h n = served (readChain 72 bytes) j tool p h n
+  served-from p h n = served (readChain bytes) j tool p h n
 
-  pub numbers-refused : numbersGood j tool ≡ false → refusedRead (readChain 72 bytes) j tool ≡ forwardRead (readChain 72 bytes) j tool
-  numbers-refused h = unserved (readChain 72 bytes) j tool (inl h)
+  pub numbers-refused : numbersGood j tool ≡ false → refusedRead (readChain bytes) j tool ≡ forwardRead (readChain bytes) j tool
+  numbers-refused h = unserved (readChain bytes) j tool (inl h)
 
-  pub chain-refused : ready bytes ≡ Unserved → refusedRead (readChain 72 bytes) j tool ≡ forwardRead (readChain 72 bytes) j tool
+  pub chain-refused : ready bytes ≡ Unserved → refusedRead (readChain bytes) j tool ≡ forwardRead (readChain bytes) j tool
   unfolding ready
-  chain-refused h = unserved (readChain 72 bytes) j tool (inr h)
+  chain-refused h = unserved (readChain bytes) j tool (inr h)
 
   -- whatever the bytes come to
-  pub from-ready : (x : Ready) → ready bytes ≡ x → numbersGood j tool ≡ true → fromReady x (readChain 72 bytes) j tool ≡ forwardRead (readChain 72 bytes) j tool
+  pub from-ready : (x : Ready) → ready bytes ≡ x → numbersGood j tool ≡ true → fromReady x (readChain bytes) j tool ≡ forwardRead (readChain bytes) j tool
   from-ready (Served p) h n = served-from p h n
   from-ready Unserved h n = chain-refused h

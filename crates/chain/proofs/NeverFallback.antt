@@ -31,8 +31,8 @@ use Rattle.chain.specs.declared.Joints.{Joints}
 use Rattle.chain.specs.declared.Turns.{Turns}
 use Rattle.chain.specs.declared.Posed.the-variants.{At}
 use Rattle.chain.specs.Bytes.{byteAt, littleEndian, numberAt, vectorAt}
-use Rattle.chain.specs.ChainBytes.{rotaryAt, noRotary, secondAt, chainFields, chainAt, noChain, chainUnless, malformed, readCount, readChain}
-use Rattle.chain.specs.Check.{demand, then, oneOrTwo, chainCheck, within, allWithin, longest, farthest, mostTurned, jointsFinite, jointsWithin, pivotsWithin}
+use Rattle.chain.specs.ChainBytes.{axisField, secondField, spindleField, chainLength, rotaryAt, noRotary, secondAt, chainFields, chainAt, noChain, chainUnless, malformed, recordLength, readCount, readCounted, readChain}
+use Rattle.chain.specs.Check.{demand, then, oneOrTwo, chainCheck, within, allWithin, longest, farthest, mostTurned, jointsFinite, jointsWithin, chainWithin}
 use Rattle.chain.specs.Prepared.{prepared}
 use Rattle.chain.specs.Forward.{still, swing, turnsOf, swingForth, tablesForth, reachAxis, reach, forwardCore, posed, unlessRefused, lengthGood, forwardSizes, forwardCheck, forward}
 use Rattle.chain.proofs.Passing.{then-passed, demand-passed}
@@ -40,7 +40,7 @@ use Rattle.chain.proofs.UnitAxes.{FitAxes, ChainDirections, chain-direc
 use Rattle.chain.proofs.ReachDirected.{core-served, core-directed}
 
 -- ---- the angles: within 36,000 degrees, as demand 2 has it, a turn and the turn back are no fallback
-most-turned : Is mostTurned false (36000 * U)
+pub most-turned : Is mostTurned false (36000 * U)
 unfolding ofBits U
 most-turned = (refl, refl)
 
@@ -113,10 +113,10 @@ unfolding forwardCheck forwardSizes
 forward-passed k j tool h =
     let tool-good = demand (lengthGood tool) toolLength 0 in
     let numbers = demand (jointsFinite j) notFinite 0 in
-    let sizes = demand (within tool longest && jointsWithin j && pivotsWithin k) tooLarge 0 in
+    let sizes = demand (within tool longest && jointsWithin j && chainWithin k) tooLarge 0 in
     let a = then-passed (chainCheck k) (then numbers sizes) (then-passed tool-good (then (chainCheck k) (then numbers sizes)) h .1) in
-    let s = demand-passed (within tool longest && jointsWithin j && pivotsWithin k) tooLarge 0 (then-passed numbers sizes (a .1) .1) in
-    record { chain = a .0; joints = and-eq-true-iff (within tool longest) (jointsWithin j) .0 (and-eq-true-iff (within tool longest && jointsWithin j) (pivotsWithin k) .0 s .0) .1 }
+    let s = demand-passed (within tool longest && jointsWithin j && chainWithin k) tooLarge 0 (then-passed numbers sizes (a .1) .1) in
+    record { chain = a .0; joints = and-eq-true-iff (within tool longest) (jointsWithin j) .0 (and-eq-true-iff (within tool longest && jointsWithin j) (chainWithin k) .0 s .0) .1 }
 
 -- What holds where forward's checks pass. `axes`: the axes that it turns about, and the spindle, are the unit vectors
 -- of the given ones. `turns`: both turns are made of a sine and a cosine. `answer`: it serves, with the pose of
@@ -163,34 +163,34 @@ abbrev ReadFits : ChainRead → Type 0
 ReadFits (ChainRead.Chain k) = FitAxes k
 ReadFits (ChainRead.Refused r) = Unit {0}
 
-chain-fits : (bytes : List ℕ) (count : ℕ) → FitAxes (chainAt 72 bytes count)
+chain-fits : (w : ℕ) (bytes : List ℕ) (count : ℕ) → FitAxes (chainAt w bytes count)
 unfolding chainAt rotaryAt secondAt
-chain-fits bytes count = (vector-fits bytes 16, second (eqb count 2), vector-fits bytes (8 + 72 * count))
+chain-fits w bytes count = (vector-fits bytes 16, second (eqb count 2), vector-fits bytes (spindleField w count))
   where
-    second : (b : Bool) → FitVec (cond b (rotaryAt bytes 80) noRotary .axis)
-    second true = unfold rotaryAt in vector-fits bytes 88
+    second : (b : Bool) → FitVec (cond b (rotaryAt w bytes (secondField w)) noRotary .axis)
+    second true = unfold rotaryAt in vector-fits bytes (axisField (secondField w))
     second false = zero-fits
 
 unless-fits : (c : Checked) (k : Kinematics) → FitAxes k → ReadFits (chainUnless c k)
 unless-fits Checked.Passed k F = F
 unless-fits (Checked.Refused r) k F = tt
 
-count-fits : (bytes : List ℕ) (count : ℕ) → ReadFits (readCount 72 bytes count)
+count-fits : (w : ℕ) (bytes : List ℕ) (count : ℕ) → ReadFits (readCount w bytes count)
 unfolding readCount
-count-fits bytes count = go (not (oneOrTwo count)) (not (eqb (length bytes) (32 + 72 * count)))
+count-fits w bytes count = go (not (oneOrTwo count)) (not (eqb (length bytes) (chainLength w count)))
   where
-    go : (a b : Bool) → ReadFits (cond a (ChainRead.Chain (noChain count)) (cond b (malformed 0) (chainUnless (chainFields 72 bytes count) (chainAt 72 bytes count))))
+    go : (a b : Bool) → ReadFits (cond a (ChainRead.Chain (noChain count)) (cond b (malformed 0) (chainUnless (chainFields w bytes count) (chainAt w bytes count))))
     go true b = unfold noChain in (zero-fits, zero-fits, (ofBits-fits binary64 0, ofBits-fits binary64 0, ofBits-fits binary64 0))
     go false true = tt
-    go false false = unless-fits (chainFields 72 bytes count) (chainAt 72 bytes count) (chain-fits bytes count)
+    go false false = unless-fits (chainFields w bytes count) (chainAt w bytes count) (chain-fits w bytes count)
 
-read-fits : (bytes : List ℕ) → ReadFits (readChain 72 bytes)
-unfolding readChain
+read-fits : (bytes : List ℕ) → ReadFits (readChain bytes)
+unfolding readChain readCounted
 read-fits bytes = go (ltb (length bytes) 1)
   where
-    go : (b : Bool) → ReadFits (cond b (malformed 0) (readCount 72 bytes (byteAt bytes 0)))
+    go : (b : Bool) → ReadFits (cond b (malformed 0) (readCount (recordLength (length bytes) (byteAt bytes 0)) bytes (byteAt bytes 0)))
     go true = tt
-    go false = count-fits bytes (byteAt bytes 0)
+    go false = count-fits (recordLength (length bytes) (byteAt bytes 0)) bytes (byteAt bytes 0)
 
-pub read-plain : (bytes : List ℕ) (k : Kinematics) (j : Joints) (tool : Float) → readChain 72 bytes ≡ ChainRead.Chain k → forwardCheck k j tool ≡ Checked.Passed → ForwardPlain k j tool
+pub read-plain : (bytes : List ℕ) (k : Kinematics) (j : Joints) (tool : Float) → readChain bytes ≡ ChainRead.Chain k → forwardCheck k j tool ≡ Checked.Passed → ForwardPlain k j tool
 read-plain bytes k j tool e h = forward-plain k j tool (subst ReadFits e (read-fits bytes)) h

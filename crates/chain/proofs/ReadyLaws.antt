@@ -22,8 +22,8 @@ use Rattle.chain.specs.declared.Kinematics.{Kinematics}
 use Rattle.chain.specs.declared.Prepared.{Prepared}
 use Rattle.chain.specs.declared.Ready.the-variants.{Served, Unserved}
 use Rattle.chain.specs.Bytes.{byteAt, vectorAt}
-use Rattle.chain.specs.Check.{demand, then, served, hasDirection, knownLetter, otherLetter, travelGood, rotaryCheck, secondCheck, chainCheck, oneOrTwo, within, allWithin, longest, farthest, mostTurned, pivotsWithin}
-use Rattle.chain.specs.ChainBytes.{zeros, rotaryFields, secondFields, chainFields, rotaryAt, secondAt, noRotary, zeroVector, chainAt, chainUnless, noChain, readCount, readChain}
+use Rattle.chain.specs.Check.{demand, then, served, hasDirection, knownLetter, otherLetter, travelGood, rotaryCheck, secondCheck, chainCheck, oneOrTwo, within, allWithin, longest, farthest, mostTurned, chainWithin, rotaryWithin}
+use Rattle.chain.specs.ChainBytes.{zeros, axisField, secondField, spindleField, rotaryFields, secondFields, chainFields, rotaryAt, secondAt, noRotary, zeroVector, chainAt, chainUnless, noChain, readCount, readChain, readCounted, recordLength}
 use Rattle.chain.specs.Prepared.{unitAxis, spinOf, secondSpin, prepared}
 use Rattle.chain.specs.Ready.{passed, readyOf, readyRead, ready}
 use Rattle.chain.specs.ReadySteps.{rotaryGood, recordGood, firstGood, secondGood, secondAxis, mountAt, secondMount, secondPivot, preparedAt, readyCounted}
@@ -108,47 +108,69 @@ module _ (j : RotaryJoint) (earlier i : ℕ) where
   abbrev L : Bool
   L = travelGood (j .limits)
 
-  abbrev W : Bool
-  W = allWithin (j .pivot) longest
-
   abbrev D : Bool
   D = hasDirection (j .axis)
 
-  rotary-passed : passed (rotaryCheck j earlier i) ≡ (K && (O && (allFinite (j .axis) && (D && (allFinite (j .pivot) && L)))))
+  abbrev F : Bool
+  F = finite (j .rest)
+
+  rotary-passed : passed (rotaryCheck j earlier i) ≡ (K && (O && (allFinite (j .axis) && (D && (allFinite (j .pivot) && (L && F))))))
   unfolding rotaryCheck
-  rotary-passed = go (knownLetter (j .letter)) (otherLetter (j .letter) earlier) (allFinite (j .axis)) (hasDirection (j .axis)) (allFinite (j .pivot)) (travelGood (j .limits))
+  rotary-passed = go (knownLetter (j .letter)) (otherLetter (j .letter) earlier) (allFinite (j .axis)) (hasDirection (j .axis)) (allFinite (j .pivot)) (travelGood (j .limits)) (finite (j .rest))
     where
-      go : (a b c d e f : Bool) → passed (then (demand a rotaryLetter i) (then (demand b letterTwice i) (then (demand c chainNotFinite i) (then (demand d rotaryAxisZero i) (then (demand e chainNotFinite i) (demand f limitsRefused i))))))
-          ≡ (a && (b && (c && (d && (e && f)))))
-      go false b c d e f = refl
-      go true false c d e f = refl
-      go true true false d e f = refl
-      go true true true false e f = refl
-      go true true true true false f = refl
-      go true true true true true true = refl
-      go true true true true true false = refl
+      go : (a b c d e f g : Bool) → passed (then (demand a rotaryLetter i) (then (demand b letterTwice i) (then (demand c chainNotFinite i) (then (demand d rotaryAxisZero i) (then (demand e chainNotFinite i) (then (demand f limitsRefused i) (demand g chainNotFinite i)))))))
+          ≡ (a && (b && (c && (d && (e && (f && g))))))
+      go false b c d e f g = refl
+      go true false c d e f g = refl
+      go true true false d e f g = refl
+      go true true true false e f g = refl
+      go true true true true false f g = refl
+      go true true true true true false g = refl
+      go true true true true true true true = refl
+      go true true true true true true false = refl
 
-  pub rotary-good : (passed (rotaryCheck j earlier i) && W) ≡ (rotaryGood j earlier && D)
-  unfolding rotaryGood
-  rotary-good = ap (λ (z : Bool). z && W) rotary-passed ∙ go K O (allFinite (j .axis)) D (allFinite (j .pivot)) L W (direction-finite (j .axis)) (all-within-finite longest over-longest (j .pivot))
+  pub rotary-good : (passed (rotaryCheck j earlier i) && rotaryWithin j) ≡ (rotaryGood j earlier && D)
+  unfolding rotaryGood rotaryWithin
+  rotary-good =
+      ap (λ (z : Bool). z && (allWithin (j .pivot) longest && within (j .rest) mostTurned)) rotary-passed
+      ∙ go K O (allFinite (j .axis)) D (allFinite (j .pivot)) L F (allWithin (j .pivot) longest) (within (j .rest) mostTurned) (direction-finite (j .axis)) (all-within-finite longest over-longest (j .pivot)) (within-finite mostTurned over-turned (j .rest))
     where
-      go : (k o a d p l w : Bool) → (d ≡ true → a ≡ true) → (w ≡ true → p ≡ true) → ((k && (o && (a && (d && (p && l))))) && w) ≡ (k && o && l && w && d)
-      go false o a d p l w f g = refl
-      go true false a d p l w f g = refl
-      go true true a false p l w f g = ap (λ (z : Bool). z && w) (and-false a) ∙ sym (and-false (l && w))
-      go true true a true p l false f g = and-false (a && (p && l)) ∙ sym (ap (λ (z : Bool). z && true) (and-false l))
-      go true true a true p true true f g = rw (f refl, g refl)
-      go true true a true p false true f g = rw (f refl, g refl)
+      go : (k o a d p l f w v : Bool) → (d ≡ true → a ≡ true) → (w ≡ true → p ≡ true) → (v ≡ true → f ≡ true)
+          → ((k && (o && (a && (d && (p && (l && f)))))) && (w && v)) ≡ (k && o && l && (w && v) && d)
+      go k o a d p l f w v x y z = same _ _ forth back
+        where
+          forth : ((k && (o && (a && (d && (p && (l && f)))))) && (w && v)) ≡ true → (k && o && l && (w && v) && d) ≡ true
+          forth h =
+              let q = both (k && (o && (a && (d && (p && (l && f)))))) (w && v) h in
+              let wv = both w v (q .1) in
+              let k1 = both k (o && (a && (d && (p && (l && f))))) (q .0) in
+              let o1 = both o (a && (d && (p && (l && f)))) (k1 .1) in
+              let a1 = both a (d && (p && (l && f))) (o1 .1) in
+              let d1 = both d (p && (l && f)) (a1 .1) in
+              let p1 = both p (l && f) (d1 .1) in
+              let l1 = both l f (p1 .1) in
+              rw (k1 .0, o1 .0, l1 .0, wv .0, wv .1, d1 .0)
 
--- ---- the chain's bytes
-module _ (bytes : List ℕ) where
+          back : (k && o && l && (w && v) && d) ≡ true → ((k && (o && (a && (d && (p && (l && f)))))) && (w && v)) ≡ true
+          back h =
+              let q = both (k && o && l && (w && v)) d h in
+              let r = both (k && o && l) (w && v) (q .0) in
+              let s = both (k && o) l (r .0) in
+              let m = both k o (s .0) in
+              let wv = both w v (r .1) in
+              rw (m .0, m .1, x (q .1), q .1, y (wv .0), s .1, z (wv .1), wv .0, wv .1)
+
+-- ---- the chain's bytes, with records of w bytes
+module _ (w : ℕ) (bytes : List ℕ) where
   -- what the three calls for each rotary test, with the direction of its axis
   abbrev R : ℕ → ℕ → ℕ → Bool
-  R at earlier i = passed (rotaryFields bytes at) && (passed (rotaryCheck (rotaryAt bytes at) earlier i) && allWithin (rotaryAt bytes at .pivot) longest)
+  R at earlier i = passed (rotaryFields bytes at) && (passed (rotaryCheck (rotaryAt w bytes at) earlier i) && rotaryWithin (rotaryAt w bytes at))
 
-  record-good : (at earlier i : ℕ) → R at earlier i ≡ (recordGood bytes at earlier && hasDirection (rotaryAt bytes at .axis))
+  record-good : (at earlier i : ℕ) → R at earlier i ≡ (recordGood w bytes at earlier && hasDirection (rotaryAt w bytes at .axis))
   unfolding recordGood
-  record-good at earlier i = ap (λ (z : Bool). passed (rotaryFields bytes at) && z) (rotary-good (rotaryAt bytes at) earlier i) ∙ turn (passed (rotaryFields bytes at)) (rotaryGood (rotaryAt bytes at) earlier) (hasDirection (rotaryAt bytes at .axis))
+  record-good at earlier i =
+      ap (λ (z : Bool). passed (rotaryFields bytes at) && z) (rotary-good (rotaryAt w bytes at) earlier i)
+      ∙ turn (passed (rotaryFields bytes at)) (rotaryGood (rotaryAt w bytes at) earlier) (hasDirection (rotaryAt w bytes at .axis))
     where
       turn : (a b c : Bool) → (a && (b && c)) ≡ (a && b && c)
       turn true b c = refl
@@ -202,18 +224,24 @@ opened true true (Unit a) (Unit b) Nowhere v1 v2 v X = refl
 opened true true (Unit a) (Unit b) (Unit c) v1 v2 v X = refl
 
 -- the definition's, as one
-closed : (c : Checked) (k : Kinematics) → readyRead (chainUnless c k) ≡ cond (passed c && (passed (chainCheck k) && pivotsWithin k)) (Served (prepared k)) Unserved
+closed : (c : Checked) (k : Kinematics) → readyRead (chainUnless c k) ≡ cond (passed c && (passed (chainCheck k) && chainWithin k)) (Served (prepared k)) Unserved
 unfolding readyOf
 closed Checked.Passed k = refl
 closed (Checked.Refused r) k = refl
 
-module _ (bytes : List ℕ) where
+module _ (w : ℕ) (bytes : List ℕ) where
   abbrev Read : ℕ → Kinematics
-  Read count = chainAt 72 bytes count
+  Read count = chainAt w bytes count
 
-  fields-passed : (count : ℕ) → passed (chainFields 72 bytes count) ≡ (passed (zeros bytes 1 7) && (passed (rotaryFields bytes 8) && passed (secondFields 72 bytes count)))
+  -- where the second rotary's axis is
+  abbrev inner : ℕ
+  inner = axisField (secondField w)
+
+  fields-passed : (count : ℕ) → passed (chainFields w bytes count) ≡ (passed (zeros bytes 1 7) && (passed (rotaryFields bytes 8) && passed (secondFields w bytes count)))
   unfolding chainFields
-  fields-passed count = passed-then (zeros bytes 1 7) (then (rotaryFields bytes 8) (secondFields 72 bytes count)) ∙ ap (λ (z : Bool). passed (zeros bytes 1 7) && z) (passed-then (rotaryFields bytes 8) (secondFields 72 bytes count))
+  fields-passed count =
+      passed-then (zeros bytes 1 7) (then (rotaryFields bytes 8) (secondFields w bytes count))
+      ∙ ap (λ (z : Bool). passed (zeros bytes 1 7) && z) (passed-then (rotaryFields bytes 8) (secondFields w bytes count))
 
   check-passed : (k : Kinematics) → oneOrTwo (k .count) ≡ true
       → passed (chainCheck k) ≡ (passed (rotaryCheck (k .first) 0 0) && (passed (secondCheck k) && (allFinite (k .«spindle_axis») && hasDirection (k .«spindle_axis»))))
@@ -227,45 +255,48 @@ module _ (bytes : List ℕ) where
       go Checked.Passed Checked.Passed true true = refl
       go Checked.Passed Checked.Passed true false = refl
 
+  -- the code's tests
+  abbrev Tests : ℕ → Bool
+  Tests count =
+      firstGood w bytes
+      && (secondGood w bytes count && (served (unitDirection (vectorAt bytes 16)) && (served (secondAxis w bytes count) && served (unitDirection (vectorAt bytes (spindleField w count))))))
+
   -- the code's answer, with the chain prepared as `prepare` does it
-  two-answer : readyCounted bytes 2
-      ≡ cond (firstGood bytes && (secondGood bytes 2 && (served (unitDirection (vectorAt bytes 16)) && (served (secondAxis bytes 2) && served (unitDirection (vectorAt bytes 152)))))) (Served (prepared (Read 2))) Unserved
+  two-answer : readyCounted w bytes 2 ≡ cond (Tests 2) (Served (prepared (Read 2))) Unserved
   unfolding readyCounted prepared spinOf secondSpin unitAxis unitOr chainAt rotaryAt secondAt preparedAt mountAt secondMount secondPivot secondAxis
   two-answer =
-      opened (firstGood bytes) (secondGood bytes 2) (unitDirection (vectorAt bytes 16)) (unitDirection (vectorAt bytes 88)) (unitDirection (vectorAt bytes 152)) (vectorAt bytes 16) (vectorAt bytes 88) (vectorAt bytes 152)
-      (preparedAt bytes 2)
+      opened (firstGood w bytes) (secondGood w bytes 2) (unitDirection (vectorAt bytes 16)) (unitDirection (vectorAt bytes inner)) (unitDirection (vectorAt bytes (spindleField w 2))) (vectorAt bytes 16) (vectorAt bytes inner)
+      (vectorAt bytes (spindleField w 2)) (preparedAt w bytes 2)
 
-  one-answer : readyCounted bytes 1
-      ≡ cond (firstGood bytes && (secondGood bytes 1 && (served (unitDirection (vectorAt bytes 16)) && (served (secondAxis bytes 1) && served (unitDirection (vectorAt bytes 80)))))) (Served (prepared (Read 1))) Unserved
+  one-answer : readyCounted w bytes 1 ≡ cond (Tests 1) (Served (prepared (Read 1))) Unserved
   unfolding readyCounted prepared spinOf secondSpin unitAxis unitOr chainAt rotaryAt secondAt noRotary preparedAt mountAt secondMount secondPivot secondAxis
   one-answer =
-      opened (firstGood bytes) (secondGood bytes 1) (unitDirection (vectorAt bytes 16)) (Unit zeroVector) (unitDirection (vectorAt bytes 80)) (vectorAt bytes 16) zeroVector (vectorAt bytes 80)
-      (preparedAt bytes 1)
+      opened (firstGood w bytes) (secondGood w bytes 1) (unitDirection (vectorAt bytes 16)) (Unit zeroVector) (unitDirection (vectorAt bytes (spindleField w 1))) (vectorAt bytes 16) zeroVector (vectorAt bytes (spindleField w 1))
+      (preparedAt w bytes 1)
 
   -- the definition's tests, from the code's
-  two-order : (passed (chainFields 72 bytes 2) && (passed (chainCheck (Read 2)) && pivotsWithin (Read 2)))
-      ≡ (firstGood bytes && (secondGood bytes 2 && (served (unitDirection (vectorAt bytes 16)) && (served (secondAxis bytes 2) && served (unitDirection (vectorAt bytes 152))))))
-  unfolding firstGood secondGood secondAxis hasDirection secondFields secondCheck pivotsWithin chainAt secondAt rotaryAt oneOrTwo
+  two-order : (passed (chainFields w bytes 2) && (passed (chainCheck (Read 2)) && chainWithin (Read 2))) ≡ Tests 2
+  unfolding firstGood secondGood secondAxis hasDirection secondFields secondCheck chainWithin chainAt secondAt rotaryAt oneOrTwo
   two-order = rw (fields-passed 2, check-passed (Read 2) refl)
-      (any-order (passed (zeros bytes 1 7)) (passed (rotaryFields bytes 8)) (passed (rotaryFields bytes 80)) (passed (rotaryCheck (rotaryAt bytes 8) 0 0)) (passed (rotaryCheck (rotaryAt bytes 80) (byteAt bytes 8) 1)) (allFinite (vectorAt bytes 152)) (hasDirection (vectorAt bytes 152))
-      (allWithin (vectorAt bytes 40) longest) (allWithin (vectorAt bytes 112) longest) (recordGood bytes 8 0) (recordGood bytes 80 (byteAt bytes 8)) (hasDirection (vectorAt bytes 16)) (hasDirection (vectorAt bytes 88))
-      (record-good bytes 8 0 0) (record-good bytes 80 (byteAt bytes 8) 1) (direction-finite (vectorAt bytes 152)))
+      (any-order (passed (zeros bytes 1 7)) (passed (rotaryFields bytes 8)) (passed (rotaryFields bytes (secondField w))) (passed (rotaryCheck (rotaryAt w bytes 8) 0 0)) (passed (rotaryCheck (rotaryAt w bytes (secondField w)) (byteAt bytes 8) 1))
+      (allFinite (vectorAt bytes (spindleField w 2))) (hasDirection (vectorAt bytes (spindleField w 2))) (rotaryWithin (rotaryAt w bytes 8)) (rotaryWithin (rotaryAt w bytes (secondField w))) (recordGood w bytes 8 0)
+      (recordGood w bytes (secondField w) (byteAt bytes 8)) (hasDirection (vectorAt bytes 16)) (hasDirection (vectorAt bytes inner))
+      (record-good w bytes 8 0 0) (record-good w bytes (secondField w) (byteAt bytes 8) 1) (direction-finite (vectorAt bytes (spindleField w 2))))
 
-  one-order : (passed (chainFields 72 bytes 1) && (passed (chainCheck (Read 1)) && pivotsWithin (Read 1)))
-      ≡ (firstGood bytes && (secondGood bytes 1 && (served (unitDirection (vectorAt bytes 16)) && (served (secondAxis bytes 1) && served (unitDirection (vectorAt bytes 80))))))
-  unfolding firstGood secondGood secondAxis hasDirection secondFields secondCheck pivotsWithin chainAt secondAt noRotary rotaryAt oneOrTwo
+  one-order : (passed (chainFields w bytes 1) && (passed (chainCheck (Read 1)) && chainWithin (Read 1))) ≡ Tests 1
+  unfolding firstGood secondGood secondAxis hasDirection secondFields secondCheck chainWithin chainAt secondAt noRotary rotaryAt oneOrTwo
   one-order = rw (fields-passed 1, check-passed (Read 1) refl)
-      (any-order (passed (zeros bytes 1 7)) (passed (rotaryFields bytes 8)) true (passed (rotaryCheck (rotaryAt bytes 8) 0 0)) true (allFinite (vectorAt bytes 80)) (hasDirection (vectorAt bytes 80))
-      (allWithin (vectorAt bytes 40) longest) true (recordGood bytes 8 0) true (hasDirection (vectorAt bytes 16)) true
-      (record-good bytes 8 0 0) refl (direction-finite (vectorAt bytes 80)))
+      (any-order (passed (zeros bytes 1 7)) (passed (rotaryFields bytes 8)) true (passed (rotaryCheck (rotaryAt w bytes 8) 0 0)) true (allFinite (vectorAt bytes (spindleField w 1))) (hasDirection (vectorAt bytes (spindleField w 1)))
+      (rotaryWithin (rotaryAt w bytes 8)) true (recordGood w bytes 8 0) true (hasDirection (vectorAt bytes 16)) true
+      (record-good w bytes 8 0 0) refl (direction-finite (vectorAt bytes (spindleField w 1))))
 
-  counted : (count : ℕ) → oneOrTwo count ≡ true → readyCounted bytes count ≡ readyRead (chainUnless (chainFields 72 bytes count) (Read count))
+  counted : (count : ℕ) → oneOrTwo count ≡ true → readyCounted w bytes count ≡ readyRead (chainUnless (chainFields w bytes count) (Read count))
   counted zero h = absurd (none h)
     where
       none : oneOrTwo 0 ≡ true → ⊥
       none h = false≢true (unfold oneOrTwo in h)
-  counted (suc zero) h = one-answer ∙ ap (λ (z : Bool). cond z (Served (prepared (Read 1))) Unserved) (sym one-order) ∙ sym (closed (chainFields 72 bytes 1) (Read 1))
-  counted (suc (suc zero)) h = two-answer ∙ ap (λ (z : Bool). cond z (Served (prepared (Read 2))) Unserved) (sym two-order) ∙ sym (closed (chainFields 72 bytes 2) (Read 2))
+  counted (suc zero) h = one-answer ∙ ap (λ (z : Bool). cond z (Served (prepared (Read 1))) Unserved) (sym one-order) ∙ sym (closed (chainFields w bytes 1) (Read 1))
+  counted (suc (suc zero)) h = two-answer ∙ ap (λ (z : Bool). cond z (Served (prepared (Read 2))) Unserved) (sym two-order) ∙ sym (closed (chainFields w bytes 2) (Read 2))
   counted (suc (suc (suc n))) h = absurd (none n h)
     where
       over : (n : ℕ) → suc (suc (suc n)) < 3 → ⊥
@@ -274,14 +305,21 @@ module _ (bytes : List ℕ) where
       none : (n : ℕ) → oneOrTwo (suc (suc (suc n))) ≡ true → ⊥
       none n h = over n (ltb-true (suc (suc (suc n))) 3 (both (not (ltb (suc (suc (suc n))) 1)) (ltb (suc (suc (suc n))) 3) (unfold oneOrTwo in h) .1))
 
-  pub read-counted : (count : ℕ) → byteAt bytes 0 ≡ count → 1 ≤ length bytes → oneOrTwo count ≡ true → length bytes ≡ 32 + 72 * count → readChain 72 bytes ≡ chainUnless (chainFields 72 bytes count) (Read count)
-  unfolding readChain readCount
-  read-counted count b l o e = rw (le-ltb _ _ l, b, o, eq-eqb _ _ e)
+  -- with records as long as the bytes' length says
+  module _ (count : ℕ) (record-is : w ≡ recordLength (length bytes) count) (some : 1 ≤ length bytes) (of : oneOrTwo count ≡ true) where
+    read-counted : byteAt bytes 0 ≡ count → length bytes ≡ 32 + w * count → readChain bytes ≡ chainUnless (chainFields w bytes count) (Read count)
+    unfolding readChain readCounted readCount
+    read-counted b e = rw (le-ltb _ _ some, b, ← record-is, of, eq-eqb _ _ e)
 
-  pub ready-counted : (count : ℕ) → byteAt bytes 0 ≡ count → 1 ≤ length bytes → oneOrTwo count ≡ true → length bytes ≡ 32 + 72 * count → readyCounted bytes count ≡ ready bytes
-  unfolding ready
-  ready-counted count b l o e = counted count o ∙ ap readyRead (sym (read-counted count b l o e))
+    pub ready-counted : byteAt bytes 0 ≡ count → length bytes ≡ 32 + w * count → readyCounted w bytes count ≡ ready bytes
+    unfolding ready
+    ready-counted b e = counted count of ∙ ap readyRead (sym (read-counted b e))
 
+    pub no-length : count ≡ byteAt bytes 0 → (length bytes ≡ 32 + w * count → ⊥) → Unserved ≡ ready bytes
+    unfolding ready readChain readCounted readCount
+    no-length b e = rw (le-ltb _ _ some, ← b, ← record-is, of, ne-eqb _ _ e)
+
+module _ (bytes : List ℕ) where
   refused-count : (count : ℕ) → oneOrTwo count ≡ false → Unserved ≡ readyOf (noChain count)
   unfolding readyOf chainCheck noChain
   refused-count count o = rw o
@@ -292,9 +330,5 @@ module _ (bytes : List ℕ) where
   no-bytes h = rw (lt-ltb _ _ h)
 
   pub no-count : (count : ℕ) → count ≡ byteAt bytes 0 → 1 ≤ length bytes → oneOrTwo count ≡ false → Unserved ≡ ready bytes
-  unfolding ready readChain readCount
+  unfolding ready readChain readCounted readCount
   no-count count b l o = rw (le-ltb _ _ l, ← b, o) (refused-count count o)
-
-  pub no-length : (count : ℕ) → count ≡ byteAt bytes 0 → 1 ≤ length bytes → oneOrTwo count ≡ true → (length bytes ≡ 32 + 72 * count → ⊥) → Unserved ≡ ready bytes
-  unfolding ready readChain readCount
-  no-length count b l o e = rw (le-ltb _ _ l, ← b, o, ne-eqb _ _ e)

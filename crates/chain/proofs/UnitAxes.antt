@@ -20,6 +20,7 @@ use Rattle.chain.specs.declared.Mount.{Mount}
 use Rattle.chain.specs.declared.Mount.the-variants.{Table, Head, Absent}
 use Rattle.chain.specs.declared.Prepared.{Prepared}
 use Rattle.chain.specs.declared.RotaryJoint.{RotaryJoint}
+use lib.Ieee.Scale.{finite}
 use Rattle.chain.specs.Check.{demand, then, travelGood, served, hasDirection, knownLetter, otherLetter, rotaryCheck, oneOrTwo, secondCheck, chainCheck}
 use Rattle.chain.specs.Prepared.{mountOf, unitAxis, spinOf, secondSpin, prepared}
 use Rattle.chain.proofs.Passing.{then-passed, demand-passed, six-passed}
@@ -35,7 +36,7 @@ rotary-direction j earlier i h =
     demand-passed (hasDirection (j .axis)) rotaryAxisZero i
     (six-passed (demand (knownLetter (j .letter)) rotaryLetter i) (demand (otherLetter (j .letter) earlier) letterTwice i) (demand (allFinite (j .axis)) chainNotFinite i) (demand (hasDirection (j .axis)) rotaryAxisZero i)
     (demand (allFinite (j .pivot)) chainNotFinite i)
-    (demand (travelGood (j .limits)) limitsRefused i) h .fourth)
+    (then (demand (travelGood (j .limits)) limitsRefused i) (demand (finite (j .rest)) chainNotFinite i)) h .fourth)
 
 record ChainPassed (k : Kinematics) : Type 0 where
   first : hasDirection (k .first .axis) ≡ true

@@ -1,9 +1,11 @@
--- The bytes of a chain: its count in one byte, 7 zero bytes, a record of w bytes for each rotary, the spindle axis. A breach is 29 with the offset of the first bad field. `w` is 72.
+-- The bytes of a chain: its count in one byte, 7 zero bytes, a record of w bytes for each rotary, the spindle axis.
+-- A breach is 29 with the offset of the first bad field. `w` is 80 where each record has a rest angle, else 72.
 use mathlib.Core.Bool.{Bool, not, cond}
 use mathlib.Core.List.{List, [], _∷_}
 use Prim.Native.Nat.{ℕ, zero, suc, _+_, _*_}
 use lib.Dec.{ltb, eqb}
 use lib.ListN.{length}
+use lib.Ieee.{Float}
 use Rattle.float.specs.Helpers.{nought}
 use Rattle.geometry.specs.declared.Vec3.{Vec3}
 use Rattle.geometry.specs.Vector.{vector}
@@ -40,7 +42,8 @@ spindleField w count = 8 + w * count
 abbrev pub chainLength : ℕ → ℕ → ℕ
 chainLength w count = 32 + w * count
 
--- in a record: the letter, the carrier (0 a table, 1 a head), whether it has limits (0 or 1), 5 zero bytes, axis, pivot, and the two limits, +0.0 where it has none
+-- in a record: the letter, the carrier (0 a table, 1 a head), whether it has limits (0 or 1), 5 zero bytes, axis, pivot,
+-- the two limits, +0.0 where it has none, and in a record of 80 bytes the rest angle
 abbrev pub letterField : ℕ → ℕ
 letterField at = at
 
@@ -64,6 +67,9 @@ minField at = at + 56
 
 abbrev pub maxField : ℕ → ℕ
 maxField at = at + 64
+
+abbrev pub restField : ℕ → ℕ
+restField at = at + 72
 
 -- ---- what they must be
 -- n zero bytes: the first that is not zero is refused
@@ -99,13 +105,18 @@ travelAt bytes at =
     cond (eqb (byteAt bytes (limitsField at)) 0) Unlimited
     (Within (record { min = numberAt bytes (minField at); max = numberAt bytes (maxField at) }))
 
-unfoldable pub rotaryAt : List ℕ → ℕ → RotaryJoint
-rotaryAt bytes at = record {
+-- the rest angle, +0.0 where the record has none. Its bits are not judged here: a nan is refused by the chain's check
+unfoldable pub restAt : ℕ → List ℕ → ℕ → Float
+restAt w bytes at = cond (eqb w 80) (numberAt bytes (restField at)) nought
+
+unfoldable pub rotaryAt : ℕ → List ℕ → ℕ → RotaryJoint
+rotaryAt w bytes at = record {
   letter = byteAt bytes (letterField at);
   carrier = carrierOf (byteAt bytes (carrierField at));
   limits = travelAt bytes at;
   axis = vectorAt bytes (axisField at);
   pivot = vectorAt bytes (pivotField at);
+  rest = restAt w bytes at;
 }
 
 -- what stands for a rotary that is not there
@@ -113,15 +124,15 @@ abbrev pub zeroVector : Vec3
 zeroVector = vector nought nought nought
 
 unfoldable pub noRotary : RotaryJoint
-noRotary = record { letter = 0; carrier = Table; limits = Unlimited; axis = zeroVector; pivot = zeroVector }
+noRotary = record { letter = 0; carrier = Table; limits = Unlimited; axis = zeroVector; pivot = zeroVector; rest = nought }
 
 unfoldable pub secondAt : ℕ → List ℕ → ℕ → RotaryJoint
-secondAt w bytes count = cond (eqb count 2) (rotaryAt bytes (secondField w)) noRotary
+secondAt w bytes count = cond (eqb count 2) (rotaryAt w bytes (secondField w)) noRotary
 
 unfoldable pub chainAt : ℕ → List ℕ → ℕ → Kinematics
 chainAt w bytes count = record {
   count = count;
-  first = rotaryAt bytes firstField;
+  first = rotaryAt w bytes firstField;
   second = secondAt w bytes count;
   «spindle_axis» = vectorAt bytes (spindleField w count);
 }
@@ -137,11 +148,18 @@ abbrev pub chainUnless : Checked → Kinematics → ChainRead
 chainUnless Checked.Passed k = Chain k
 chainUnless (Checked.Refused r) k = Refused r
 
--- of a count other than 1 or 2 nothing more is judged
+-- the length says how long a record is
+unfoldable pub recordLength : (length count : ℕ) → ℕ
+recordLength length count = cond (eqb length (chainLength 80 count)) 80 72
+
+-- with records of w bytes; of a count other than 1 or 2 nothing more is judged
 unfoldable pub readCount : ℕ → List ℕ → ℕ → ChainRead
 readCount w bytes count =
     cond (not (oneOrTwo count)) (Chain (noChain count))
     (cond (not (eqb (length bytes) (chainLength w count))) (malformed 0) (chainUnless (chainFields w bytes count) (chainAt w bytes count)))
 
-unfoldable pub readChain : ℕ → List ℕ → ChainRead
-readChain w bytes = cond (ltb (length bytes) 1) (malformed 0) (readCount w bytes (byteAt bytes countField))
+unfoldable pub readCounted : List ℕ → ℕ → ChainRead
+readCounted bytes count = readCount (recordLength (length bytes) count) bytes count
+
+unfoldable pub readChain : List ℕ → ChainRead
+readChain bytes = cond (ltb (length bytes) 1) (malformed 0) (readCounted bytes (byteAt bytes countField))

@@ -67,6 +67,7 @@ rotaryCheck j earlier i =
     ∷ demand (hasDirection (j .axis)) rotaryAxisZero i
     ∷ demand (allFinite (j .pivot)) chainNotFinite i
     ∷ demand (travelGood (j .limits)) limitsRefused i
+    ∷ demand (finite (j .rest)) chainNotFinite i
     ∷ [])
 
 -- ---- the chain
@@ -103,11 +104,16 @@ farthest = ofBits binary64 0x4163_12d0_0000_0000
 abbrev pub mostTurned : Float
 mostTurned = ofBits binary64 0x40e1_9400_0000_0000
 
-unfoldable pub pivotsWithin : Kinematics → Bool
-pivotsWithin k = allWithin (k .first .pivot) longest && cond (eqb (k .count) 2) (allWithin (k .second .pivot) longest) true
+-- of a rotary: its pivot and its rest angle
+unfoldable pub rotaryWithin : RotaryJoint → Bool
+rotaryWithin j = allWithin (j .pivot) longest && within (j .rest) mostTurned
+
+-- of the rotaries that the chain has: every call's 17 follows from this one
+unfoldable pub chainWithin : Kinematics → Bool
+chainWithin k = rotaryWithin (k .first) && cond (eqb (k .count) 2) (rotaryWithin (k .second)) true
 
 unfoldable pub chainSizes : Kinematics → Checked
-chainSizes k = demand (pivotsWithin k) tooLarge 0
+chainSizes k = demand (chainWithin k) tooLarge 0
 
 -- ---- joints: all five numbers, the unused angle too
 unfoldable pub jointsFinite : Joints → Bool

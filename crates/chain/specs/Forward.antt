@@ -27,7 +27,7 @@ use Rattle.chain.specs.declared.ChainRead.{ChainRead}
 use Rattle.chain.specs.declared.ChainRead.the-variants as ChainRead
 use Rattle.chain.specs.declared.Posed.{Posed}
 use Rattle.chain.specs.declared.Posed.the-variants.{At, Refused}
-use Rattle.chain.specs.Check.{demand, firstRefusal, chainCheck, within, longest, jointsFinite, jointsWithin, pivotsWithin}
+use Rattle.chain.specs.Check.{demand, firstRefusal, chainCheck, within, longest, jointsFinite, jointsWithin, chainWithin}
 use Rattle.chain.specs.Prepared.{prepared}
 
 -- ---- the turns
@@ -112,7 +112,7 @@ unfoldable pub lengthGood : Float → Bool
 lengthGood tool = finite tool && not (Ieee.lt tool nought)
 
 unfoldable pub forwardSizes : Kinematics → Joints → Float → Bool
-forwardSizes k j tool = within tool longest && jointsWithin j && pivotsWithin k
+forwardSizes k j tool = within tool longest && jointsWithin j && chainWithin k
 
 unfoldable pub forwardCheck : Kinematics → Joints → Float → Checked
 forwardCheck k j tool =

@@ -9,7 +9,7 @@ use Rattle.chain.specs.declared.ChainRead.the-variants.{Chain, Refused}
 use Rattle.chain.specs.declared.Kinematics.{Kinematics}
 use Rattle.chain.specs.declared.Ready.{Ready}
 use Rattle.chain.specs.declared.Ready.the-variants.{Served, Unserved}
-use Rattle.chain.specs.Check.{chainCheck, pivotsWithin}
+use Rattle.chain.specs.Check.{chainCheck, chainWithin}
 use Rattle.chain.specs.ChainBytes.{readChain}
 use Rattle.chain.specs.Prepared.{prepared}
 
@@ -18,11 +18,11 @@ passed Checked.Passed = true
 passed (Checked.Refused r) = false
 
 unfoldable pub readyOf : Kinematics → Ready
-readyOf k = cond (passed (chainCheck k) && pivotsWithin k) (Served (prepared k)) Unserved
+readyOf k = cond (passed (chainCheck k) && chainWithin k) (Served (prepared k)) Unserved
 
 abbrev pub readyRead : ChainRead → Ready
 readyRead (Chain k) = readyOf k
 readyRead (Refused r) = Unserved
 
 unfoldable pub ready : List ℕ → Ready
-ready bytes = readyRead (readChain 72 bytes)
+ready bytes = readyRead (readChain bytes)

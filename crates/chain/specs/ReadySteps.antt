@@ -1,4 +1,5 @@
--- The words in which the inner functions of `forward_from` promise their results. A reader who believes `Ready` and `Forward` needs none of them.
+-- The words in which the inner functions of `forward_from` promise their results, of a chain with records of w bytes.
+-- A reader who believes `Ready` and `Forward` needs none of them.
 use mathlib.Core.Bool.{Bool, true, not, _&&_, cond}
 use mathlib.Core.List.{List}
 use Prim.Native.Nat.{ℕ, _+_, _*_}
@@ -25,56 +26,56 @@ use Rattle.chain.specs.declared.Posed.the-variants as Posed
 use Rattle.chain.specs.declared.Ready.{Ready}
 use Rattle.chain.specs.declared.Ready.the-variants.{Served, Unserved}
 use Rattle.chain.specs.Bytes.{byteAt, vectorAt}
-use Rattle.chain.specs.Check.{knownLetter, otherLetter, travelGood, allWithin, within, longest, jointsWithin}
-use Rattle.chain.specs.ChainBytes.{readChain, zeros, rotaryFields, rotaryAt, carrierOf, zeroVector}
+use Rattle.chain.specs.Check.{knownLetter, otherLetter, travelGood, rotaryWithin, within, longest, jointsWithin}
+use Rattle.chain.specs.ChainBytes.{carrierField, axisField, pivotField, secondField, spindleField, readChain, zeros, rotaryFields, rotaryAt, carrierOf, zeroVector}
 use Rattle.chain.specs.Prepared.{mountOf}
 use Rattle.chain.specs.Forward.{forwardCheck, posed, reach, turnsOf}
 use Rattle.chain.specs.Ready.{passed}
 
 -- ---- what must be, the directions aside
 unfoldable pub rotaryGood : RotaryJoint → ℕ → Bool
-rotaryGood j earlier = knownLetter (j .letter) && otherLetter (j .letter) earlier && travelGood (j .limits) && allWithin (j .pivot) longest
+rotaryGood j earlier = knownLetter (j .letter) && otherLetter (j .letter) earlier && travelGood (j .limits) && rotaryWithin j
 
-unfoldable pub recordGood : List ℕ → ℕ → ℕ → Bool
-recordGood bytes at earlier = passed (rotaryFields bytes at) && rotaryGood (rotaryAt bytes at) earlier
+unfoldable pub recordGood : ℕ → List ℕ → ℕ → ℕ → Bool
+recordGood w bytes at earlier = passed (rotaryFields bytes at) && rotaryGood (rotaryAt w bytes at) earlier
 
-unfoldable pub firstGood : List ℕ → Bool
-firstGood bytes = passed (zeros bytes 1 7) && recordGood bytes 8 0
+unfoldable pub firstGood : ℕ → List ℕ → Bool
+firstGood w bytes = passed (zeros bytes 1 7) && recordGood w bytes 8 0
 
-unfoldable pub secondGood : List ℕ → ℕ → Bool
-secondGood bytes count = cond (eqb count 2) (recordGood bytes 80 (byteAt bytes 8)) true
+unfoldable pub secondGood : ℕ → List ℕ → ℕ → Bool
+secondGood w bytes count = cond (eqb count 2) (recordGood w bytes (secondField w) (byteAt bytes 8)) true
 
 -- ---- what it is
-unfoldable pub secondAxis : List ℕ → ℕ → Direction
-secondAxis bytes count = cond (eqb count 2) (unitDirection (vectorAt bytes 88)) (Unit zeroVector)
+unfoldable pub secondAxis : ℕ → List ℕ → ℕ → Direction
+secondAxis w bytes count = cond (eqb count 2) (unitDirection (vectorAt bytes (axisField (secondField w)))) (Unit zeroVector)
 
 unfoldable pub mountAt : List ℕ → ℕ → Mount
-mountAt bytes at = mountOf (carrierOf (byteAt bytes (at + 1)))
+mountAt bytes at = mountOf (carrierOf (byteAt bytes (carrierField at)))
 
-unfoldable pub secondMount : List ℕ → ℕ → Mount
-secondMount bytes count = cond (eqb count 2) (mountAt bytes 80) Absent
+unfoldable pub secondMount : ℕ → List ℕ → ℕ → Mount
+secondMount w bytes count = cond (eqb count 2) (mountAt bytes (secondField w)) Absent
 
-unfoldable pub secondPivot : List ℕ → ℕ → Vec3
-secondPivot bytes count = cond (eqb count 2) (vectorAt bytes 112) zeroVector
+unfoldable pub secondPivot : ℕ → List ℕ → ℕ → Vec3
+secondPivot w bytes count = cond (eqb count 2) (vectorAt bytes (pivotField (secondField w))) zeroVector
 
-unfoldable pub preparedAt : List ℕ → ℕ → Vec3 → Vec3 → Vec3 → Prepared
-preparedAt bytes count axis inner spindle = record {
+unfoldable pub preparedAt : ℕ → List ℕ → ℕ → Vec3 → Vec3 → Vec3 → Prepared
+preparedAt w bytes count axis inner spindle = record {
   first = record { mount = mountAt bytes 8; axis = axis; pivot = vectorAt bytes 40 };
-  second = record { mount = secondMount bytes count; axis = inner; pivot = secondPivot bytes count };
+  second = record { mount = secondMount w bytes count; axis = inner; pivot = secondPivot w bytes count };
   spindle = spindle;
 }
 
-unfoldable pub readyCounted : List ℕ → ℕ → Ready
-readyCounted bytes count =
-    cond (not (firstGood bytes)) Unserved
-    (cond (not (secondGood bytes count)) Unserved
+unfoldable pub readyCounted : ℕ → List ℕ → ℕ → Ready
+readyCounted w bytes count =
+    cond (not (firstGood w bytes)) Unserved
+    (cond (not (secondGood w bytes count)) Unserved
     (along (unitDirection (vectorAt bytes 16)) Unserved
     (λ axis.
-    along (secondAxis bytes count) Unserved
+    along (secondAxis w bytes count) Unserved
     (λ inner.
-    along (unitDirection (vectorAt bytes (8 + 72 * count))) Unserved
+    along (unitDirection (vectorAt bytes (spindleField w count))) Unserved
     (λ spindle.
-    Served (preparedAt bytes count axis inner spindle))))))
+    Served (preparedAt w bytes count axis inner spindle))))))
 
 -- ---- forward: its numbers, and its refusal where there is one
 unfoldable pub numbersGood : Joints → Float → Bool
@@ -93,5 +94,5 @@ abbrev pub fromReady : Ready → ChainRead → Joints → Float → Posed
 fromReady (Served p) read j tool = posed (reach p (turnsOf p (j .a0) (j .a1)) (j .xyz) tool)
 fromReady Unserved read j tool = refusedRead read j tool
 
-unfoldable pub forwardCounted : List ℕ → ℕ → Joints → Float → Posed
-forwardCounted bytes count j tool = fromReady (readyCounted bytes count) (readChain 72 bytes) j tool
+unfoldable pub forwardCounted : ℕ → List ℕ → ℕ → Joints → Float → Posed
+forwardCounted w bytes count j tool = fromReady (readyCounted w bytes count) (readChain bytes) j tool

@@ -89,22 +89,35 @@ pub fn travel_at(bytes: &[u8], at: usize) -> Travel
     Travel::Within(RotaryLimits { min, max })
 }
 
-// The rotary whose record starts there.
-pub fn rotary_at(bytes: &[u8], at: usize) -> RotaryJoint
-    requires { ⌜ at + 72 ≤ length (now bytes) ⌝ }
-    ensures { λ r. ⌜ r ≡ S.rotaryAt (now (bytes .entry)) at ⌝ }
+// The rest angle in a record of w bytes, +0.0 where it has none.
+pub fn rest_at(w: usize, bytes: &[u8], at: usize) -> f64
+    requires { ⌜ at + w ≤ length (now bytes) ⌝ }
+    ensures { λ r. ⌜ r ≡ S.restAt w (now (bytes .entry)) at ⌝ }
+{
+    if w == 80 {
+        return number_at(bytes, at + 72);
+    }
+    0.0
+}
+
+// The rotary whose record of w bytes starts there.
+pub fn rotary_at(w: usize, bytes: &[u8], at: usize) -> RotaryJoint
+    requires { ⌜ (72 ≤ w) × (at + w ≤ length (now bytes)) ⌝ }
+    ensures { λ r. ⌜ r ≡ S.rotaryAt w (now (bytes .entry)) at ⌝ }
 {
     let letter = byte_at(bytes, at);
     let carrier = carrier_of(byte_at(bytes, at + 1));
     let limits = travel_at(bytes, at);
     let axis = vector_at(bytes, at + 8);
     let pivot = vector_at(bytes, at + 32);
+    let rest = rest_at(w, bytes, at);
     RotaryJoint {
         letter,
         carrier,
         limits,
         axis,
         pivot,
+        rest,
     }
 }
 
@@ -123,6 +136,7 @@ pub fn no_rotary() -> RotaryJoint
         limits: Travel::Unlimited,
         axis: zero,
         pivot: zero,
+        rest: 0.0,
     }
 }
 
@@ -145,44 +159,44 @@ fn no_chain(count: u8) -> Kinematics
     }
 }
 
-fn second_fields(bytes: &[u8], count: u8) -> Checked
-    requires { ⌜ 32 + 72 * count ≤ length (now bytes) ⌝ }
-    ensures { λ r. ⌜ r ≡ S.secondFields 72 (now (bytes .entry)) count ⌝ }
+fn second_fields(w: usize, bytes: &[u8], count: u8) -> Checked
+    requires { ⌜ (72 ≤ w) × (32 + w * count ≤ length (now bytes)) ⌝ }
+    ensures { λ r. ⌜ r ≡ S.secondFields w (now (bytes .entry)) count ⌝ }
 {
     if count == 2 {
-        return rotary_fields(bytes, 80);
+        return rotary_fields(bytes, 8 + w);
     }
     Checked::Passed
 }
 
-fn second_at(bytes: &[u8], count: u8) -> RotaryJoint
-    requires { ⌜ 32 + 72 * count ≤ length (now bytes) ⌝ }
-    ensures { λ r. ⌜ r ≡ S.secondAt 72 (now (bytes .entry)) count ⌝ }
+fn second_at(w: usize, bytes: &[u8], count: u8) -> RotaryJoint
+    requires { ⌜ (72 ≤ w) × (32 + w * count ≤ length (now bytes)) ⌝ }
+    ensures { λ r. ⌜ r ≡ S.secondAt w (now (bytes .entry)) count ⌝ }
 {
     if count == 2 {
-        return rotary_at(bytes, 80);
+        return rotary_at(w, bytes, 8 + w);
     }
     no_rotary()
 }
 
 // What the bytes of a chain of the right length must be.
-fn chain_fields(bytes: &[u8], count: u8) -> Checked
-    requires { ⌜ (1 ≤ count) × (32 + 72 * count ≤ length (now bytes)) ⌝ }
-    ensures { λ r. ⌜ r ≡ S.chainFields 72 (now (bytes .entry)) count ⌝ }
+fn chain_fields(w: usize, bytes: &[u8], count: u8) -> Checked
+    requires { ⌜ (1 ≤ count) × (72 ≤ w) × (32 + w * count ≤ length (now bytes)) ⌝ }
+    ensures { λ r. ⌜ r ≡ S.chainFields w (now (bytes .entry)) count ⌝ }
 {
     let empty = zeros(bytes, 1, 7);
     let first = rotary_fields(bytes, 8);
-    let second = second_fields(bytes, count);
+    let second = second_fields(w, bytes, count);
     then(empty, then(first, second))
 }
 
-fn chain_at(bytes: &[u8], count: u8) -> Kinematics
-    requires { ⌜ (1 ≤ count) × (32 + 72 * count ≤ length (now bytes)) ⌝ }
-    ensures { λ r. ⌜ r ≡ S.chainAt 72 (now (bytes .entry)) count ⌝ }
+fn chain_at(w: usize, bytes: &[u8], count: u8) -> Kinematics
+    requires { ⌜ (1 ≤ count) × (72 ≤ w) × (32 + w * count ≤ length (now bytes)) ⌝ }
+    ensures { λ r. ⌜ r ≡ S.chainAt w (now (bytes .entry)) count ⌝ }
 {
-    let first = rotary_at(bytes, 8);
-    let second = second_at(bytes, count);
-    let spindle_axis = vector_at(bytes, 8 + 72 * count as usize);
+    let first = rotary_at(w, bytes, 8);
+    let second = second_at(w, bytes, count);
+    let spindle_axis = vector_at(bytes, 8 + w * count as usize);
     Kinematics {
         count,
         first,
@@ -201,23 +215,44 @@ fn malformed(at: u64) -> ChainRead
     })
 }
 
+// How long a record is, by the length of the chain.
+pub fn record_length(length: usize, count: u8) -> usize
+    ensures length { λ r. ⌜ r ≡ S.recordLength length count ⌝ }
+    ensures least { λ r. ⌜ 72 ≤ r ⌝ }
+    ensures most { λ r. ⌜ r ≤ 80 ⌝ }
+{
+    if length == 32 + 80 * count as usize {
+        return 80;
+    }
+    72
+}
+
+// The chain of that count with records of w bytes, or the first breach of its bytes.
+fn read_count(w: usize, bytes: &[u8], count: u8) -> ChainRead
+    requires { ⌜ (72 ≤ w) × (w ≤ 80) ⌝ }
+    ensures { λ r. ⌜ r ≡ S.readCount w (now (bytes .entry)) count ⌝ }
+{
+    if !one_or_two(count) {
+        return ChainRead::Chain(no_chain(count));
+    }
+    if bytes.len() != 32 + w * count as usize {
+        return malformed(0);
+    }
+    let checked = chain_fields(w, bytes, count);
+    if let Checked::Refused(r) = checked {
+        return ChainRead::Refused(r);
+    }
+    ChainRead::Chain(chain_at(w, bytes, count))
+}
+
 // The chain, or the first breach of its bytes.
 pub fn read_chain(bytes: &[u8]) -> ChainRead
-    ensures { λ r. ⌜ r ≡ S.readChain 72 (now (bytes .entry)) ⌝ }
+    ensures { λ r. ⌜ r ≡ S.readChain (now (bytes .entry)) ⌝ }
 {
     if bytes.len() < 1 {
         return malformed(0);
     }
     let count = byte_at(bytes, 0);
-    if !one_or_two(count) {
-        return ChainRead::Chain(no_chain(count));
-    }
-    if bytes.len() != 32 + 72 * count as usize {
-        return malformed(0);
-    }
-    let checked = chain_fields(bytes, count);
-    if let Checked::Refused(r) = checked {
-        return ChainRead::Refused(r);
-    }
-    ChainRead::Chain(chain_at(bytes, count))
+    let w = record_length(bytes.len(), count);
+    read_count(w, bytes, count)
 }

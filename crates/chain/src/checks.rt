@@ -113,7 +113,9 @@ fn rotary_check(j: RotaryJoint, directed: bool, earlier: u8, index: u64) -> Chec
     );
     let limits = j.limits;
     let travel = demand(travel_good(limits), refusal::LIMITS_REFUSED, index);
-    let placed = then(finite_axis, then(direction, then(finite_pivot, travel)));
+    let finite_rest = demand(float::finite(j.rest), refusal::CHAIN_NOT_FINITE, index);
+    let held = then(finite_pivot, then(travel, finite_rest));
+    let placed = then(finite_axis, then(direction, held));
     then(known, then(other, placed))
 }
 
@@ -196,15 +198,23 @@ pub fn all_within(v: Vec3, limit: f64) -> bool
     false
 }
 
-// The pivots of the rotaries that the chain has.
-pub fn pivots_within(k: Kinematics) -> bool
-    ensures { λ r. ⌜ r ≡ S.pivotsWithin k ⌝ }
+// The pivot and the rest angle of a rotary.
+fn rotary_within(j: RotaryJoint) -> bool
+    ensures { λ r. ⌜ r ≡ S.rotaryWithin j ⌝ }
 {
-    let first = k.first;
-    let second = k.second;
-    if all_within(first.pivot, 100000.0) {
+    if all_within(j.pivot, 100000.0) {
+        return within(j.rest, 36000.0);
+    }
+    false
+}
+
+// Those of the rotaries that the chain has.
+pub fn chain_within(k: Kinematics) -> bool
+    ensures { λ r. ⌜ r ≡ S.chainWithin k ⌝ }
+{
+    if rotary_within(k.first) {
         if k.count == 2 {
-            return all_within(second.pivot, 100000.0);
+            return rotary_within(k.second);
         }
         return true;
     }
@@ -214,7 +224,7 @@ pub fn pivots_within(k: Kinematics) -> bool
 pub fn chain_sizes(k: Kinematics) -> Checked
     ensures { λ r. ⌜ r ≡ S.chainSizes k ⌝ }
 {
-    demand(pivots_within(k), refusal::TOO_LARGE, 0)
+    demand(chain_within(k), refusal::TOO_LARGE, 0)
 }
 
 // All five numbers, the unused angle too.

@@ -19,12 +19,13 @@ use crate::Turns;
 use crate::bytes_at::byte_at;
 use crate::bytes_at::vector_at;
 use crate::chain_bytes::read_chain;
+use crate::chain_bytes::record_length;
 use crate::checks::chain_check;
+use crate::checks::chain_within;
 use crate::checks::demand;
 use crate::checks::joints_finite;
 use crate::checks::joints_within;
 use crate::checks::one_or_two;
-use crate::checks::pivots_within;
 use crate::checks::then;
 use crate::checks::within;
 use crate::prepare_chain::prepare;
@@ -163,7 +164,7 @@ fn forward_sizes(k: Kinematics, j: Joints, tool_length: f64) -> bool
 {
     if within(tool_length, 100000.0) {
         if joints_within(j) {
-            return pivots_within(k);
+            return chain_within(k);
         }
     }
     false
@@ -243,35 +244,36 @@ fn refused_read(read: ChainRead, j: Joints, tool_length: f64) -> Posed
     }
 }
 
-// With bytes of the length of that count, and numbers that serve: the prepared chain does not leave this function.
-fn forward_counted(bytes: &[u8], count: u8, j: Joints, tool_length: f64) -> Posed
-    requires { ⌜ (1 ≤ count) × (32 + 72 * count ≤ length (now bytes)) ⌝ }
-    ensures { λ r. ⌜ r ≡ Steps.forwardCounted (now (bytes .entry)) count j «tool_length» ⌝ }
+// With bytes of the length of that count with records of w bytes, and numbers that serve: the prepared chain does not
+// leave this function.
+fn forward_counted(w: usize, bytes: &[u8], count: u8, j: Joints, tool_length: f64) -> Posed
+    requires { ⌜ (1 ≤ count) × (72 ≤ w) × (32 + w * count ≤ length (now bytes)) ⌝ }
+    ensures { λ r. ⌜ r ≡ Steps.forwardCounted w (now (bytes .entry)) count j «tool_length» ⌝ }
 {
-    if !first_good(bytes) {
+    if !first_good(w, bytes) {
         return refused_read(read_chain(bytes), j, tool_length);
     }
-    if !second_good(bytes, count) {
+    if !second_good(w, bytes, count) {
         return refused_read(read_chain(bytes), j, tool_length);
     }
     let Direction::Unit(axis) = geometry::unit_direction(vector_at(bytes, 16)) else {
         return refused_read(read_chain(bytes), j, tool_length);
     };
-    let Direction::Unit(inner) = second_axis(bytes, count) else {
+    let Direction::Unit(inner) = second_axis(w, bytes, count) else {
         return refused_read(read_chain(bytes), j, tool_length);
     };
-    let spindle_axis = vector_at(bytes, 8 + 72 * count as usize);
+    let spindle_axis = vector_at(bytes, 8 + w * count as usize);
     let Direction::Unit(spindle) = geometry::unit_direction(spindle_axis) else {
         return refused_read(read_chain(bytes), j, tool_length);
     };
-    let p = prepared_at(bytes, count, axis, inner, spindle);
+    let p = prepared_at(w, bytes, count, axis, inner, spindle);
     let turns = turns_of(p, j.a0, j.a1);
     posed(reach(p, turns, j.xyz, tool_length))
 }
 
 // `forward` of a chain's bytes: the chain is prepared while it is checked, and the refusal is looked up only where there is one.
 pub fn forward_from(bytes: &[u8], j: Joints, tool_length: f64) -> Posed
-    ensures { λ r. ⌜ r ≡ S.forwardRead (readChain 72 (now (bytes .entry))) j «tool_length» ⌝ }
+    ensures { λ r. ⌜ r ≡ S.forwardRead (readChain (now (bytes .entry))) j «tool_length» ⌝ }
 {
     if !numbers_good(j, tool_length) {
         return refused_read(read_chain(bytes), j, tool_length);
@@ -283,10 +285,11 @@ pub fn forward_from(bytes: &[u8], j: Joints, tool_length: f64) -> Posed
     if !one_or_two(count) {
         return refused_read(read_chain(bytes), j, tool_length);
     }
-    if bytes.len() != 32 + 72 * count as usize {
+    let w = record_length(bytes.len(), count);
+    if bytes.len() != 32 + w * count as usize {
         return refused_read(read_chain(bytes), j, tool_length);
     }
-    forward_counted(bytes, count, j, tool_length)
+    forward_counted(w, bytes, count, j, tool_length)
 }
 
 // How the position turns a rotary, from the turn by which forward moves it.

@@ -22,13 +22,13 @@ pub use chain_bytes::zeros;
 pub use checks::all_within;
 pub use checks::chain_check;
 pub use checks::chain_sizes;
+pub use checks::chain_within;
 pub use checks::demand;
 pub use checks::has_direction;
 pub use checks::joints_finite;
 pub use checks::joints_within;
 pub use checks::known_letter;
 pub use checks::one_or_two;
-pub use checks::pivots_within;
 pub use checks::then;
 pub use checks::within;
 pub use forward_map::forth_from;
@@ -65,13 +65,16 @@ pub enum Travel {
     Within(RotaryLimits),
 }
 
-// A pivot is a point on the axis: of a table in machine coordinates at zero angles, of a head relative to the gauge point at zero head angles.
+// A pivot is a point on the axis: of a table in machine coordinates at zero angles, of a head relative to the gauge
+// point at zero head angles. The rest is the angle at which the cable hangs free: cable turns are counted from it, and
+// nothing else reads it.
 pub struct RotaryJoint {
     pub letter: u8,
     pub carrier: Carrier,
     pub limits: Travel,
     pub axis: Vec3,
     pub pivot: Vec3,
+    pub rest: f64,
 }
 
 // Outer joints first within each carrier. `second` is read only where `count` is 2.

@@ -1,4 +1,5 @@
-// A chain that a call serves, straight from its bytes: every check of it is made, each axis is normalised once, and no chain goes from function to function. What refuses is looked up by the list of checks.
+// A chain that a call serves, straight from its bytes with records of w bytes: every check of it is made, each axis is
+// normalised once, and no chain goes from function to function. What refuses is looked up by the list of checks.
 ghost use Prim.Native.Nat.{_+_, _*_, _≤_};
 ghost use mathlib.Core.Path.{_≡_};
 ghost use mathlib.Core.Bool.{true};
@@ -17,6 +18,7 @@ use crate::bytes_at::spare;
 use crate::bytes_at::vector_at;
 use crate::chain_bytes::carrier_of;
 use crate::chain_bytes::flag;
+use crate::chain_bytes::rest_at;
 use crate::chain_bytes::travel_at;
 use crate::chain_bytes::zeros;
 use crate::checks::all_within;
@@ -24,6 +26,7 @@ use crate::checks::known_letter;
 use crate::checks::one_or_two;
 use crate::checks::other_letter;
 use crate::checks::travel_good;
+use crate::checks::within;
 use crate::prepare_chain::mount_of;
 use geometry::Direction;
 use geometry::Vec3;
@@ -50,9 +53,9 @@ fn fields_good(bytes: &[u8], at: usize) -> bool
 }
 
 // A rotary, but for the direction of its axis. `earlier` is the letter of the rotary before it, 0 where there is none.
-fn record_good(bytes: &[u8], at: usize, earlier: u8) -> bool
-    requires { ⌜ at + 72 ≤ length (now bytes) ⌝ }
-    ensures { λ r. ⌜ r ≡ Steps.recordGood (now (bytes .entry)) at earlier ⌝ }
+fn record_good(w: usize, bytes: &[u8], at: usize, earlier: u8) -> bool
+    requires { ⌜ (72 ≤ w) × (at + w ≤ length (now bytes)) ⌝ }
+    ensures { λ r. ⌜ r ≡ Steps.recordGood w (now (bytes .entry)) at earlier ⌝ }
 {
     if !fields_good(bytes, at) {
         return false;
@@ -67,36 +70,39 @@ fn record_good(bytes: &[u8], at: usize, earlier: u8) -> bool
     if !travel_good(travel_at(bytes, at)) {
         return false;
     }
-    all_within(vector_at(bytes, at + 32), 100000.0)
+    if !all_within(vector_at(bytes, at + 32), 100000.0) {
+        return false;
+    }
+    within(rest_at(w, bytes, at), 36000.0)
 }
 
-pub fn first_good(bytes: &[u8]) -> bool
-    requires { ⌜ 80 ≤ length (now bytes) ⌝ }
-    ensures { λ r. ⌜ r ≡ Steps.firstGood (now (bytes .entry)) ⌝ }
+pub fn first_good(w: usize, bytes: &[u8]) -> bool
+    requires { ⌜ (72 ≤ w) × (8 + w ≤ length (now bytes)) ⌝ }
+    ensures { λ r. ⌜ r ≡ Steps.firstGood w (now (bytes .entry)) ⌝ }
 {
     let empty = zeros(bytes, 1, 7);
     if let Checked::Refused(_r) = empty {
         return false;
     }
-    record_good(bytes, 8, 0)
+    record_good(w, bytes, 8, 0)
 }
 
-pub fn second_good(bytes: &[u8], count: u8) -> bool
-    requires { ⌜ 32 + 72 * count ≤ length (now bytes) ⌝ }
-    ensures { λ r. ⌜ r ≡ Steps.secondGood (now (bytes .entry)) count ⌝ }
+pub fn second_good(w: usize, bytes: &[u8], count: u8) -> bool
+    requires { ⌜ (72 ≤ w) × (32 + w * count ≤ length (now bytes)) ⌝ }
+    ensures { λ r. ⌜ r ≡ Steps.secondGood w (now (bytes .entry)) count ⌝ }
 {
     if count == 2 {
-        return record_good(bytes, 80, byte_at(bytes, 8));
+        return record_good(w, bytes, 8 + w, byte_at(bytes, 8));
     }
     true
 }
 
-pub fn second_axis(bytes: &[u8], count: u8) -> Direction
-    requires { ⌜ 32 + 72 * count ≤ length (now bytes) ⌝ }
-    ensures { λ r. ⌜ r ≡ Steps.secondAxis (now (bytes .entry)) count ⌝ }
+pub fn second_axis(w: usize, bytes: &[u8], count: u8) -> Direction
+    requires { ⌜ (72 ≤ w) × (32 + w * count ≤ length (now bytes)) ⌝ }
+    ensures { λ r. ⌜ r ≡ Steps.secondAxis w (now (bytes .entry)) count ⌝ }
 {
     if count == 2 {
-        return geometry::unit_direction(vector_at(bytes, 88));
+        return geometry::unit_direction(vector_at(bytes, 8 + w + 8));
     }
     Direction::Unit(Vec3 {
         x: 0.0,
@@ -112,22 +118,22 @@ fn mount_at(bytes: &[u8], at: usize) -> Mount
     mount_of(carrier_of(byte_at(bytes, at + 1)))
 }
 
-fn second_mount(bytes: &[u8], count: u8) -> Mount
-    requires { ⌜ 32 + 72 * count ≤ length (now bytes) ⌝ }
-    ensures { λ r. ⌜ r ≡ Steps.secondMount (now (bytes .entry)) count ⌝ }
+fn second_mount(w: usize, bytes: &[u8], count: u8) -> Mount
+    requires { ⌜ (72 ≤ w) × (32 + w * count ≤ length (now bytes)) ⌝ }
+    ensures { λ r. ⌜ r ≡ Steps.secondMount w (now (bytes .entry)) count ⌝ }
 {
     if count == 2 {
-        return mount_at(bytes, 80);
+        return mount_at(bytes, 8 + w);
     }
     Mount::Absent
 }
 
-fn second_pivot(bytes: &[u8], count: u8) -> Vec3
-    requires { ⌜ 32 + 72 * count ≤ length (now bytes) ⌝ }
-    ensures { λ r. ⌜ r ≡ Steps.secondPivot (now (bytes .entry)) count ⌝ }
+fn second_pivot(w: usize, bytes: &[u8], count: u8) -> Vec3
+    requires { ⌜ (72 ≤ w) × (32 + w * count ≤ length (now bytes)) ⌝ }
+    ensures { λ r. ⌜ r ≡ Steps.secondPivot w (now (bytes .entry)) count ⌝ }
 {
     if count == 2 {
-        return vector_at(bytes, 112);
+        return vector_at(bytes, 8 + w + 32);
     }
     Vec3 {
         x: 0.0,
@@ -137,14 +143,21 @@ fn second_pivot(bytes: &[u8], count: u8) -> Vec3
 }
 
 // The chain with these unit axes.
-pub fn prepared_at(bytes: &[u8], count: u8, axis: Vec3, inner: Vec3, spindle: Vec3) -> Prepared
-    requires { ⌜ (1 ≤ count) × (32 + 72 * count ≤ length (now bytes)) ⌝ }
-    ensures { λ r. ⌜ r ≡ Steps.preparedAt (now (bytes .entry)) count axis inner spindle ⌝ }
+pub fn prepared_at(
+    w: usize,
+    bytes: &[u8],
+    count: u8,
+    axis: Vec3,
+    inner: Vec3,
+    spindle: Vec3,
+) -> Prepared
+    requires { ⌜ (1 ≤ count) × (72 ≤ w) × (32 + w * count ≤ length (now bytes)) ⌝ }
+    ensures { λ r. ⌜ r ≡ Steps.preparedAt w (now (bytes .entry)) count axis inner spindle ⌝ }
 {
     let mount = mount_at(bytes, 8);
     let pivot = vector_at(bytes, 40);
-    let inner_mount = second_mount(bytes, count);
-    let inner_pivot = second_pivot(bytes, count);
+    let inner_mount = second_mount(w, bytes, count);
+    let inner_pivot = second_pivot(w, bytes, count);
     let first = Spin { mount, axis, pivot };
     let second = Spin {
         mount: inner_mount,

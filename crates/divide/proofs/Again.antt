@@ -23,7 +23,7 @@ use Rattle.chain.specs.declared.Joints.{Joints}
 use Rattle.chain.specs.declared.Kinematics.{Kinematics}
 use Rattle.chain.specs.declared.Prepared.{Prepared}
 use Rattle.chain.specs.declared.ToolPose.{ToolPose}
-use Rattle.chain.specs.Check.{longest, jointsFinite, jointsWithin, pivotsWithin}
+use Rattle.chain.specs.Check.{longest, jointsFinite, jointsWithin, chainWithin}
 use Rattle.chain.specs.Prepared.{prepared}
 use Rattle.chain.proofs.ReadyLaws.{both, all-within-finite, over-longest}
 use Rattle.lists.specs.Each.{Each}
@@ -223,9 +223,9 @@ module _ (k : Kinematics) (tol : Tolerances) (poses joints : List Float) (roomPo
     sizes-again : divisionSizes k ps js ≡ true
     unfolding divisionSizes
     sizes-again =
-        let s = both (pivotsWithin k && all tipWithin (posesIn poses) && all jointsWithin (jointSetsIn joints)) (leb (length poses / 6) 100000) (parts .checks .sizes-is) in
-        let t = both (pivotsWithin k && all tipWithin (posesIn poses)) (all jointsWithin (jointSetsIn joints)) (s .0) in
-        let u = both (pivotsWithin k) (all tipWithin (posesIn poses)) (t .0) in
+        let s = both (chainWithin k && all tipWithin (posesIn poses) && all jointsWithin (jointSetsIn joints)) (leb (length poses / 6) 100000) (parts .checks .sizes-is) in
+        let t = both (chainWithin k && all tipWithin (posesIn poses)) (all jointsWithin (jointSetsIn joints)) (s .0) in
+        let u = both (chainWithin k) (all tipWithin (posesIn poses)) (t .0) in
         rw (u .0, poses-back r, tips, joints-back r, sets-within r result-fine, long-poses r, sixth (length r), le-leb (length r) 100000 few)
 
     as-many-again : eqb (length ps / 6) (length js / 5) ≡ true

@@ -27,7 +27,7 @@ use Rattle.chain.specs.declared.Checked.the-variants.{Passed}
 use Rattle.chain.specs.declared.Joints.{Joints}
 use Rattle.chain.specs.declared.Kinematics.{Kinematics}
 use Rattle.chain.specs.declared.Posed.the-variants.{At}
-use Rattle.chain.specs.Check.{demand, chainCheck, within, longest, jointsWithin, pivotsWithin}
+use Rattle.chain.specs.Check.{demand, chainCheck, within, longest, jointsWithin, chainWithin}
 use Rattle.chain.specs.Forward.{turnsOf, reach, forwardCore, lengthGood, forwardSizes, forwardCheck, forward}
 use Rattle.chain.specs.Prepared.{prepared}
 use Rattle.chain.proofs.NeverFallback.{ForwardPlain, forward-plain}
@@ -61,7 +61,7 @@ no-tool : within nought longest ≡ true
 unfolding within sizeOf le lt eq ofBits
 no-tool = refl
 
-module _ (k : Kinematics) (F : FitAxes k) (passed : chainCheck k ≡ Passed) (pivots : pivotsWithin k ≡ true) where
+module _ (k : Kinematics) (F : FitAxes k) (passed : chainCheck k ≡ Passed) (pivots : chainWithin k ≡ true) where
   joints-passed : (j : Joints) → jointsWithin j ≡ true → forwardCheck k j nought ≡ Passed
   unfolding forwardCheck forwardSizes
   joints-passed j h = rw (no-length, passed, sizes-finite j h, no-tool, h, pivots)
@@ -87,7 +87,7 @@ pub record SegmentPlain (k : Kinematics) (x y : Item) : Type 0 where
   pub gap : axisGap (poseOf (prepared k) (x .joints) .axis) (poseOf (prepared k) (y .joints) .axis) (midpoint (prepared k) x y)
       ≡ plainAngleBetween (midpoint (prepared k) x y .pose .axis) (plainSlerp (poseOf (prepared k) (x .joints) .axis) (poseOf (prepared k) (y .joints) .axis) half)
 
-module _ (k : Kinematics) (F : FitAxes k) (passed : chainCheck k ≡ Passed) (pivots : pivotsWithin k ≡ true) (x y : Item) where
+module _ (k : Kinematics) (F : FitAxes k) (passed : chainCheck k ≡ Passed) (pivots : chainWithin k ≡ true) (x y : Item) where
   gap-plain : axisGap (poseOf (prepared k) (x .joints) .axis) (poseOf (prepared k) (y .joints) .axis) (midpoint (prepared k) x y)
       ≡ plainAngleBetween (midpoint (prepared k) x y .pose .axis) (plainSlerp (poseOf (prepared k) (x .joints) .axis) (poseOf (prepared k) (y .joints) .axis) half)
   unfolding axisGap plainAngleBetween midpoint
@@ -133,7 +133,7 @@ each-sized (j ∷ l) L = let f = L .0 .1 in (record { sizes = L .0 .0; fits-x = 
 -- ---- what the checks of a division leave
 record Left (k : Kinematics) (poses joints : List Float) : Type 0 where
   chain : chainCheck k ≡ Passed
-  pivots : pivotsWithin k ≡ true
+  pivots : chainWithin k ≡ true
   sets : all jointsWithin (jointSetsIn joints) ≡ true
   as-many : length poses / 6 ≡ length joints / 5
 
@@ -146,12 +146,12 @@ left k tol poses joints roomPoses roomJoints e =
     let d = then-passed (demand (eqb (length poses / 6) (length joints / 5)) Numbers.lengthsDiffer 0) _ (c .1) in
     let f = then-passed (pathChain k) _ (d .1) in
     let g = then-passed (demand (allFinite poses joints) Numbers.notFinite 0) _ (f .1) in
-    let s = demand-passed (pivotsWithin k && all tipWithin (posesIn poses) && all jointsWithin (jointSetsIn joints) && leb (length poses / 6) 100000) Numbers.tooLarge 0 (g .1) in
-    let u = and-eq-true-iff (pivotsWithin k && all tipWithin (posesIn poses) && all jointsWithin (jointSetsIn joints)) (leb (length poses / 6) 100000) .0 s in
-    let v = and-eq-true-iff (pivotsWithin k && all tipWithin (posesIn poses)) (all jointsWithin (jointSetsIn joints)) .0 (u .0) in
+    let s = demand-passed (chainWithin k && all tipWithin (posesIn poses) && all jointsWithin (jointSetsIn joints) && leb (length poses / 6) 100000) Numbers.tooLarge 0 (g .1) in
+    let u = and-eq-true-iff (chainWithin k && all tipWithin (posesIn poses) && all jointsWithin (jointSetsIn joints)) (leb (length poses / 6) 100000) .0 s in
+    let v = and-eq-true-iff (chainWithin k && all tipWithin (posesIn poses)) (all jointsWithin (jointSetsIn joints)) .0 (u .0) in
     record {
       chain = chain-of-path k (f .0);
-      pivots = and-eq-true-iff (pivotsWithin k) (all tipWithin (posesIn poses)) .0 (v .0) .0;
+      pivots = and-eq-true-iff (chainWithin k) (all tipWithin (posesIn poses)) .0 (v .0) .0;
       sets = v .1;
       as-many = eqb→eq (length poses / 6) (length joints / 5) (subst T (sym (demand-passed (eqb (length poses / 6) (length joints / 5)) Numbers.lengthsDiffer 0 (d .0))) tt);
     }

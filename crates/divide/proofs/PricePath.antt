@@ -18,7 +18,7 @@ use Rattle.chain.specs.declared.Joints.{Joints}
 use Rattle.chain.specs.declared.Kinematics.{Kinematics}
 use Rattle.chain.specs.declared.Prepared.{Prepared}
 use Rattle.chain.specs.declared.ToolPose.{ToolPose}
-use Rattle.chain.specs.Check.{jointsWithin, pivotsWithin}
+use Rattle.chain.specs.Check.{jointsWithin, chainWithin}
 use Rattle.chain.proofs.ReadyLaws.{both}
 use Rattle.path.specs.declared.Start.{Start}
 use Rattle.path.specs.Promise.{Served, OnPath}
@@ -89,8 +89,8 @@ pub given-sets-sized : (k : Kinematics) (tol : Tolerances) (lent solved : List F
 unfolding divisionSizes jointSetsIn
 given-sets-sized k tol lent solved roomPoses roomJoints e f =
     let p = all-pass k tol lent solved roomPoses roomJoints e in
-    let s = both (pivotsWithin k && all tipWithin (posesIn lent) && all jointsWithin (jointSetsIn solved)) (leb (length lent / 6) 100000) (p .sizes-is) in
-    let t = both (pivotsWithin k && all tipWithin (posesIn lent)) (all jointsWithin (jointSetsIn solved)) (s .0) in
+    let s = both (chainWithin k && all tipWithin (posesIn lent) && all jointsWithin (jointSetsIn solved)) (leb (length lent / 6) 100000) (p .sizes-is) in
+    let t = both (chainWithin k && all tipWithin (posesIn lent)) (all jointsWithin (jointSetsIn solved)) (s .0) in
     let n : length lent / 6 ≡ length solved / 5 = eqb-true (length lent / 6) (length solved / 5) (p .as-many-is) in
     sized-rows (length lent / 6) solved (all-fit solved f) (rw n (t .1))
 

@@ -23,7 +23,7 @@ use Rattle.chain.specs.declared.Carrier.the-variants.{Table}
 use Rattle.chain.specs.declared.Joints.{Joints}
 use Rattle.chain.specs.declared.Kinematics.{Kinematics}
 use Rattle.chain.specs.declared.Travel.the-variants.{Unlimited}
-use Rattle.chain.specs.Check.{travelGood, hasDirection, knownLetter, otherLetter, rotaryCheck, oneOrTwo, secondCheck, chainCheck, within, allWithin, pivotsWithin, jointsWithin}
+use Rattle.chain.specs.Check.{travelGood, hasDirection, knownLetter, otherLetter, rotaryCheck, oneOrTwo, secondCheck, chainCheck, within, allWithin, rotaryWithin, chainWithin, jointsWithin}
 use Rattle.chain.specs.ChainBytes.{noRotary}
 use Rattle.chain.specs.Forward.{turnsOf, tablesForth, headPoint, headVector, tablePoint, tableVector, reachAxis, reach, forwardCore, position}
 use Rattle.chain.specs.Prepared.{unitAxis, spinOf, secondSpin, prepared}
@@ -61,7 +61,7 @@ far = vector (ofBits binary64 0x40f8_6a00_0000_0000) (ofBits binary64 0x40f8_6a0
 
 -- the letter C is the byte 67
 abbrev pub chain : Kinematics
-chain = record { count = 1; first = record { letter = 67; carrier = Table; limits = Unlimited; axis = alongZ; pivot = far }; second = noRotary; «spindle_axis» = alongZ }
+chain = record { count = 1; first = record { letter = 67; carrier = Table; limits = Unlimited; axis = alongZ; pivot = far; rest = nought }; second = noRotary; «spindle_axis» = alongZ }
 
 -- 1.8e-12 mm
 abbrev apart : Float
@@ -76,7 +76,7 @@ at x = record { xyz = vector x x x; a0 = nought; a1 = nought }
 
 -- ---- it is solved, from angles zero with a cone of 1 degree: the table stays where it is
 pub solved : solvePath chain poses AtZero one 10 ≡ Along (at nought ∷ at apart ∷ [])
-unfolding solvePath solveChecked solveCheck wholeRecords coneGood pathChain parallel pathSizes posesIn rows solvePoses poseAnswer solvedPose solvedTip solveOne setUp boundsOf turnedWithin singularFrame chainCheck secondCheck rotaryCheck oneOrTwo knownLetter otherLetter travelGood hasDirection within allWithin pivotsWithin noRotary prepared secondSpin spinOf unitAxis unitOr unitDirection allFinite tiny withLength exactPose ofRaw ofPositions secondCandidate reachedBy alone unwound withinLimits inside firstInside secondInside unwindAngles unwindAngle byTurns roundHalfAway orientationAngles oneJointAngles sp1 betweenParts turnedBy squarePart misses poseAt jointsAt position forwardCore reach reachAxis tablePoint tableVector headPoint headVector turnsOf tablesForth turnOf rotateVector rotatePoint degreePair turnable sineDegrees cosineDegrees norm dot cross scale add sub root sizeOf Ieee.add Ieee.sub Ieee.mul Ieee.div Ieee.neg Ieee.lt Ieee.le Ieee.eq Ieee.sum Ieee.round ofBits
+unfolding solvePath solveChecked solveCheck wholeRecords coneGood pathChain parallel pathSizes posesIn rows solvePoses poseAnswer solvedPose solvedTip solveOne setUp boundsOf turnedWithin singularFrame chainCheck secondCheck rotaryCheck oneOrTwo knownLetter otherLetter travelGood hasDirection within allWithin rotaryWithin chainWithin noRotary prepared secondSpin spinOf unitAxis unitOr unitDirection allFinite tiny withLength exactPose ofRaw ofPositions secondCandidate reachedBy alone unwound withinLimits inside firstInside secondInside unwindAngles unwindAngle byTurns roundHalfAway orientationAngles oneJointAngles sp1 betweenParts turnedBy squarePart misses poseAt jointsAt position forwardCore reach reachAxis tablePoint tableVector headPoint headVector turnsOf tablesForth turnOf rotateVector rotatePoint degreePair turnable sineDegrees cosineDegrees norm dot cross scale add sub root sizeOf Ieee.add Ieee.sub Ieee.mul Ieee.div Ieee.neg Ieee.lt Ieee.le Ieee.eq Ieee.sum Ieee.round ofBits
 solved = refl
 
 -- ---- and divided, with a chord tolerance of 1e-13 mm, an axis tolerance of 1 degree and just the space: the midpoint
@@ -95,5 +95,5 @@ abbrev result : List Item
 result = posed zero (at nought) ∷ posed zero (at middle) ∷ posed (vector apart apart apart) (at apart) ∷ []
 
 pub divided : subdividePath chain tolerances poses (flat jointNumbers (at nought ∷ at apart ∷ [])) 18 15 ≡ Halved (Done 1 result)
-unfolding subdividePath divisionCheck checksInOrder fourWhole wholeRecords toleranceGood Checking.allFinite divisionSizes tipWithin jointSetsIn jointsWithin all flat pathChain parallel chainCheck secondCheck rotaryCheck oneOrTwo knownLetter otherLetter travelGood hasDirection within allWithin pivotsWithin noRotary posesIn rows itemsIn paired spaceIn divisionWithin division halve Halving.step divides segmentWithin middleWithin nearAnEnd jointsUnchanged asNear tipGap axisGap midpoint lerpJoints lerpVec poseOf gapVec slerpAxis slerpCosine angleBetweenDeg clampUnit arccosineOf sineOfCosine arctangentOf angleFloat levelFloat sineOf sineFloat served prepared secondSpin spinOf unitAxis unitOr unitDirection allFinite tiny withLength forwardCore reach reachAxis tablePoint tableVector headPoint headVector turnsOf turnOf rotateVector rotatePoint degreePair turnable sineDegrees cosineDegrees norm dot cross scale add sub root sizeOf toDegrees Ieee.add Ieee.sub Ieee.mul Ieee.div Ieee.neg Ieee.lt Ieee.le Ieee.eq Ieee.sum Ieee.round ofBits
+unfolding subdividePath divisionCheck checksInOrder fourWhole wholeRecords toleranceGood Checking.allFinite divisionSizes tipWithin jointSetsIn jointsWithin all flat pathChain parallel chainCheck secondCheck rotaryCheck oneOrTwo knownLetter otherLetter travelGood hasDirection within allWithin rotaryWithin chainWithin noRotary posesIn rows itemsIn paired spaceIn divisionWithin division halve Halving.step divides segmentWithin middleWithin nearAnEnd jointsUnchanged asNear tipGap axisGap midpoint lerpJoints lerpVec poseOf gapVec slerpAxis slerpCosine angleBetweenDeg clampUnit arccosineOf sineOfCosine arctangentOf angleFloat levelFloat sineOf sineFloat served prepared secondSpin spinOf unitAxis unitOr unitDirection allFinite tiny withLength forwardCore reach reachAxis tablePoint tableVector headPoint headVector turnsOf turnOf rotateVector rotatePoint degreePair turnable sineDegrees cosineDegrees norm dot cross scale add sub root sizeOf toDegrees Ieee.add Ieee.sub Ieee.mul Ieee.div Ieee.neg Ieee.lt Ieee.le Ieee.eq Ieee.sum Ieee.round ofBits
 divided = refl

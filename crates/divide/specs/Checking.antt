@@ -15,7 +15,7 @@ use Rattle.chain.specs.declared.Checked.{Checked}
 use Rattle.chain.specs.declared.Joints.{Joints}
 use Rattle.chain.specs.declared.Kinematics.{Kinematics}
 use Rattle.chain.specs.declared.ToolPose.{ToolPose}
-use Rattle.chain.specs.Check.{demand, firstRefusal, allWithin, longest, pivotsWithin, jointsWithin}
+use Rattle.chain.specs.Check.{demand, firstRefusal, allWithin, longest, chainWithin, jointsWithin}
 use Rattle.path.specs.Solving.{posesIn, wholeRecords, pathChain}
 use Rattle.middle.specs.declared.Tolerances.{Tolerances}
 use Rattle.turn.specs.Items.{jointsFrom}
@@ -40,7 +40,7 @@ unfoldable pub jointSetsIn : List Float → List Joints
 jointSetsIn l = rows 5 jointsFrom (length l / 5) l
 
 unfoldable pub divisionSizes : Kinematics → List Float → List Float → Bool
-divisionSizes k poses joints = pivotsWithin k && all tipWithin (posesIn poses) && all jointsWithin (jointSetsIn joints) && leb (length poses / 6) 100000
+divisionSizes k poses joints = chainWithin k && all tipWithin (posesIn poses) && all jointsWithin (jointSetsIn joints) && leb (length poses / 6) 100000
 
 -- ---- the list; `roomPoses` and `roomJoints` are how many numbers the lent outputs have
 unfoldable pub fourWhole : (poses joints roomPoses roomJoints : ℕ) → Bool

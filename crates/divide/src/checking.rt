@@ -99,7 +99,7 @@ fn division_sizes(k: Kinematics, poses: &[f64], joints: &[f64], numbers: usize) 
     requires { ⌜ numbers ≤ length (now joints) ⌝ }
     ensures { λ r. ⌜ r ≡ S.divisionSizes k (now (poses .entry)) (take numbers (now (joints .entry))) ⌝ }
 {
-    if chain::pivots_within(k) {
+    if chain::chain_within(k) {
         if tips_within(poses) {
             if joint_sets_within(joints, numbers / 5) {
                 return poses.len() / 6 <= 100000;

@@ -12,7 +12,7 @@ use Rattle.geometry.specs.Direction.{allFinite, unitDirection}
 use Rattle.chain.specs.declared.Checked.the-variants.{Passed}
 use Rattle.chain.specs.declared.Kinematics.{Kinematics}
 use Rattle.chain.specs.declared.ToolPose.{ToolPose}
-use Rattle.chain.specs.Check.{demand, chainCheck, served, hasDirection, within, allWithin, pivotsWithin, longest}
+use Rattle.chain.specs.Check.{demand, chainCheck, served, hasDirection, within, allWithin, chainWithin, longest}
 use Rattle.chain.specs.Forward.{lengthGood}
 use Rattle.chain.proofs.Passing.{demand-passed, SixPassed, six-passed}
 use Rattle.inverse.specs.Inverse.{hintFinite, hintWithin, inverseSizes, inverseCheck}
@@ -43,5 +43,5 @@ module _ (k : Kinematics) (pose : ToolPose) (tool : Float) (hint : Angles) (pass
   unfolding inverseSizes
   hint-within fit =
       let sizes = demand-passed (inverseSizes k (pose .tip) tool hint) tooLarge 0 (parts .sixth) in
-      let first = and-eq-true-iff (within tool longest && allWithin (pose .tip) longest && hintWithin hint) (pivotsWithin k) .0 sizes in
+      let first = and-eq-true-iff (within tool longest && allWithin (pose .tip) longest && hintWithin hint) (chainWithin k) .0 sizes in
       hint-up-to hint (fit .0) (fit .1) (and-eq-true-iff (within tool longest && allWithin (pose .tip) longest) (hintWithin hint) .0 (first .0) .1)

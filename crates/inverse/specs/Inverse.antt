@@ -20,7 +20,7 @@ use Rattle.chain.specs.declared.Kinematics.{Kinematics}
 use Rattle.chain.specs.declared.Prepared.{Prepared}
 use Rattle.chain.specs.declared.ToolPose.{ToolPose}
 use Rattle.chain.specs.declared.Turns.{Turns}
-use Rattle.chain.specs.Check.{demand, firstRefusal, chainCheck, hasDirection, within, allWithin, pivotsWithin, longest, mostTurned}
+use Rattle.chain.specs.Check.{demand, firstRefusal, chainCheck, hasDirection, within, allWithin, chainWithin, longest, mostTurned}
 use Rattle.chain.specs.Forward.{forwardCore, turnsOf, tablesForth, forthFrom, position, lengthGood}
 use Rattle.chain.specs.Prepared.{prepared}
 use Rattle.inverse.specs.Subproblem.{shortest}
@@ -116,7 +116,7 @@ unfoldable pub hintWithin : Angles → Bool
 hintWithin hint = within (hint .a0) mostTurned && within (hint .a1) mostTurned
 
 unfoldable pub inverseSizes : Kinematics → Vec3 → Float → Angles → Bool
-inverseSizes k tip tool hint = within tool longest && allWithin tip longest && hintWithin hint && pivotsWithin k
+inverseSizes k tip tool hint = within tool longest && allWithin tip longest && hintWithin hint && chainWithin k
 
 unfoldable pub inverseCheck : Kinematics → ToolPose → Float → Angles → Checked
 inverseCheck k pose tool hint =

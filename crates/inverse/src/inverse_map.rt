@@ -207,7 +207,7 @@ fn inverse_sizes(k: Kinematics, tip: Vec3, tool_length: f64, hint: Angles) -> bo
     if within(tool_length, 100000.0) {
         if chain::all_within(tip, 100000.0) {
             if hint_within(hint) {
-                return chain::pivots_within(k);
+                return chain::chain_within(k);
             }
         }
     }

@@ -1,4 +1,5 @@
--- Bytes between the parts do not matter: two files of one length that agree on the trailer and on the chain, by its count, are read alike, refused ones too; and where they agree on the poses, they have the same poses.
+-- Bytes between the parts do not matter: two files of one length that agree on the trailer and on the chain, by its count
+-- and the trailer's word, are read alike, refused ones too; and where they agree on the poses, they have the same poses.
 use Prim.Native.Nat.{ℕ, zero, suc, _+_, _-_, _*_, _≤_, _<_}
 use native.Mathlib.Omega.{arith}
 use mathlib.Core.Path.{_≡_, refl, sym, _∙_}
@@ -7,6 +8,7 @@ use mathlib.Core.List.{List}
 use borrow.Author.Tests.{eqb-true, lt-ltb, le-ltb, lt-leb}
 use lib.Dec.{eqb}
 use lib.ListN.{length}
+use Rattle.float.specs.Helpers.{nought}
 use Rattle.refusal.specs.declared.Refusal.{Refusal}
 use Rattle.refusal.specs.Numbers as Numbers
 use Rattle.chain.specs.declared.Checked.{Checked}
@@ -14,14 +16,14 @@ use Rattle.chain.specs.declared.Checked.the-variants as Checked
 use Rattle.chain.specs.declared.Kinematics.{Kinematics}
 use Rattle.chain.specs.Bytes.{byteAt, littleEndian, numberAt, vectorAt, spare}
 use Rattle.chain.specs.Check.{demand, then}
-use Rattle.chain.specs.ChainBytes.{chainLength, zeros, flag, rotaryFields, travelAt, rotaryAt, noRotary}
+use Rattle.chain.specs.ChainBytes.{chainLength, zeros, flag, rotaryFields, travelAt, restAt, rotaryAt, noRotary}
 use Rattle.chain.proofs.Bytes.{at-least-one}
-use Rattle.job.specs.JobBytes.{trailer, sized, placesIn, placed, rotaryPart, secondPart, chainPart, secondIn, chainIn, jobAt, jobUnless, jobFields, jobFrom, readJob}
+use Rattle.job.specs.JobBytes.{trailer, wordLength, sized, placesIn, placed, rotaryPart, secondPart, chainPart, secondIn, chainIn, jobAt, jobUnless, jobFields, jobFrom, readJob}
 use Rattle.job.specs.JobPoses.{numbersAt, posesOf}
 use Rattle.job.specs.declared.Places.{Places}
 use Rattle.job.specs.declared.Job.{Job}
 use Rattle.job.specs.declared.JobRead.the-variants as JobRead
-use Rattle.job.proofs.JobWithin.{placed-passed, within, chain-at, rotaries}
+use Rattle.job.proofs.JobWithin.{word-wide, placed-passed, within, chain-at, chain-long}
 
 -- the bytes from an offset on and before another are the same
 pub Agree : List ℕ → List ℕ → ℕ → ℕ → Type 0
@@ -78,15 +80,24 @@ module _ (a b : List ℕ) (from to : ℕ) (agree : Agree a b from to) where
   unfolding travelAt
   same-travel at p q = rw (same-byte (at + 2) (omega arith) (omega arith), same-number (at + 56) (omega arith) (omega arith), same-number (at + 64) (omega arith) (omega arith))
 
-  same-rotary : (at : ℕ) → from ≤ at → at + 72 ≤ to → rotaryAt a at ≡ rotaryAt b at
+  same-rest : (w at : ℕ) → from ≤ at → at + w ≤ to → restAt w a at ≡ restAt w b at
+  unfolding restAt
+  same-rest w at p q = by-length (eqb w 80) refl
+    where
+      by-length : (t : Bool) → eqb w 80 ≡ t → cond (eqb w 80) (numberAt a (at + 72)) nought ≡ cond (eqb w 80) (numberAt b (at + 72)) nought
+      by-length true e = let h = eqb-true w 80 e in rw (same-number (at + 72) (omega arith) (omega (arith, h)))
+      by-length false e = rw e
+
+  same-rotary : (w at : ℕ) → 72 ≤ w → from ≤ at → at + w ≤ to → rotaryAt w a at ≡ rotaryAt w b at
   unfolding rotaryAt
-  same-rotary at p q =
+  same-rotary w at wide p q =
       rw (
         same-byte at p (omega arith),
         same-byte (at + 1) (omega arith) (omega arith),
-        same-travel at p q,
+        same-travel at p (omega arith),
         same-vector (at + 8) (omega arith) (omega arith),
         same-vector (at + 32) (omega arith) (omega arith),
+        same-rest w at p q,
       )
 
   same-numbers : (n at : ℕ) → from ≤ at → at + 8 * n ≤ to → numbersAt n a at ≡ numbersAt n b at
@@ -132,10 +143,10 @@ module _ (w : ℕ) (wide : 72 ≤ w) (a b : List ℕ) (p : Places) (count : ℕ)
   unfolding secondIn
   same-second-in = by-count (eqb count 2) refl
     where
-      by-count : (t : Bool) → eqb count 2 ≡ t → cond (eqb count 2) (rotaryAt a (p .chain + (8 + w))) noRotary ≡ cond (eqb count 2) (rotaryAt b (p .chain + (8 + w))) noRotary
+      by-count : (t : Bool) → eqb count 2 ≡ t → cond (eqb count 2) (rotaryAt w a (p .chain + (8 + w))) noRotary ≡ cond (eqb count 2) (rotaryAt w b (p .chain + (8 + w))) noRotary
       by-count true e =
           let h = room-of-two (eqb-true count 2 e) in
-          rw (same-rotary a b (p .chain) (p .chain + chainLength w count) agree (p .chain + (8 + w)) (omega arith) (omega (arith, h, wide)))
+          rw (same-rotary a b (p .chain) (p .chain + chainLength w count) agree w (p .chain + (8 + w)) wide (omega arith) (omega (arith, h)))
       by-count false e = rw e
 
   pub same-chain-in : chainIn w a p count ≡ chainIn w b p count
@@ -143,7 +154,7 @@ module _ (w : ℕ) (wide : 72 ≤ w) (a b : List ℕ) (p : Places) (count : ℕ)
   same-chain-in =
       let h = room in
       rw (
-        same-rotary a b (p .chain) (p .chain + chainLength w count) agree (p .chain + 8) (omega arith) (omega (arith, h, wide)),
+        same-rotary a b (p .chain) (p .chain + chainLength w count) agree w (p .chain + 8) wide (omega arith) (omega (arith, h)),
         same-second-in,
         same-vector a b (p .chain) (p .chain + chainLength w count) agree (p .chain + (8 + w * count)) (omega arith) (omega arith),
       )
@@ -163,9 +174,9 @@ module _ (a b : List ℕ) (least : 40 ≤ length a) (long : length b ≡ length 
         same-whole a b t (length a) agree 4 (t + 12) (omega arith) (omega (arith, h)),
       )
 
-  same-job : (p : Places) (k : Kinematics) → jobAt b p k ≡ jobAt a p k
+  same-job : (w : ℕ) (p : Places) (k : Kinematics) → jobAt w b p k ≡ jobAt w a p k
   unfolding jobAt
-  same-job p k =
+  same-job w p k =
       let t = length a - 40 in
       let h : t + 40 ≡ length a = omega (arith, least) in
       rw (
@@ -189,7 +200,7 @@ module _ (w : ℕ) (wide : 72 ≤ w) (a b : List ℕ) (least : 40 ≤ length a) 
         by-length w a b p count long,
         ← same-chain-part w wide a b p count some chains,
         ← same-chain-in w wide a b p count some chains,
-        same-job a b least long trailers p (chainIn w a p count),
+        same-job a b least long trailers w p (chainIn w a p count),
       )
 
   -- what the trailer says is refused before the chain is read
@@ -198,8 +209,8 @@ module _ (w : ℕ) (wide : 72 ≤ w) (a b : List ℕ) (least : 40 ≤ length a) 
   refused-alike p count r e = rw (long, by-length w a b p count long, e) (either-way (sized (length a)))
     where
       either-way : (t : Bool)
-          → jobUnless (then (demand t Numbers.malformed 0) (Checked.Refused r)) (jobAt b p (chainIn w b p count))
-          ≡ jobUnless (then (demand t Numbers.malformed 0) (Checked.Refused r)) (jobAt a p (chainIn w a p count))
+          → jobUnless (then (demand t Numbers.malformed 0) (Checked.Refused r)) (jobAt w b p (chainIn w b p count))
+          ≡ jobUnless (then (demand t Numbers.malformed 0) (Checked.Refused r)) (jobAt w a p (chainIn w a p count))
       either-way true = refl
       either-way false = refl
 
@@ -207,30 +218,35 @@ module _ (w : ℕ) (wide : 72 ≤ w) (a b : List ℕ) (least : 40 ≤ length a) 
   either-alike p count Checked.Passed e chains = jobs-alike p count (at-least-one count (placed-passed w a p count e .counted)) chains
   either-alike p count (Checked.Refused r) e chains = refused-alike p count r e
 
-  pub files-alike : Agree a b (placesIn a .chain) (placesIn a .chain + chainLength w (byteAt a (placesIn a .chain))) → readJob w b ≡ readJob w a
+module _ (a b : List ℕ) (least : 40 ≤ length a) (long : length b ≡ length a) (trailers : Agree a b (length a - 40) (length a)) where
+  abbrev w : ℕ
+  w = wordLength (placesIn a .word)
+
+  pub files-alike : Agree a b (placesIn a .chain) (placesIn a .chain + chainLength w (byteAt a (placesIn a .chain))) → readJob b ≡ readJob a
   unfolding readJob
   files-alike chains =
       let p = placesIn a in
       let count : byteAt b (p .chain) ≡ byteAt a (p .chain) = sym (same-byte a b (p .chain) (p .chain + chainLength w (byteAt a (p .chain))) chains (p .chain) (omega arith) (omega arith)) in
-      rw (same-places a b least long trailers, count) (either-alike p (byteAt a (p .chain)) (placed w a p (byteAt a (p .chain))) refl chains)
+      rw (same-places a b least long trailers, count)
+      (either-alike w (word-wide (p .word)) a b least long trailers p (byteAt a (p .chain)) (placed w a p (byteAt a (p .chain))) refl chains)
 
 -- the same by a job that was read
-module _ (w : ℕ) (wide : 72 ≤ w) (a b : List ℕ) (j : Job) (read : readJob w a ≡ JobRead.Job j) (long : length b ≡ length a)
-    (trailers : Agree a b (length a - 40) (length a)) (chains : Agree a b (j .«chain_at») (j .«chain_at» + chainLength w (j .chain .count))) where
-  pub read-alike : readJob w b ≡ JobRead.Job j
-  read-alike = files-alike w wide a b (within w a j read .least) long trailers (rw (chain-at w a j read, rotaries w a j read) at chains) ∙ read
+module _ (a b : List ℕ) (j : Job) (read : readJob a ≡ JobRead.Job j) (long : length b ≡ length a)
+    (trailers : Agree a b (length a - 40) (length a)) (chains : Agree a b (j .«chain_at») (j .«chain_at» + j .«chain_length»)) where
+  pub read-alike : readJob b ≡ JobRead.Job j
+  read-alike = files-alike a b (within a j read .least) long trailers (rw (chain-at a j read, chain-long a j read) at chains) ∙ read
 
 pub poses-alike : (a b : List ℕ) (j : Job) → Agree a b (j .«poses_at») (j .«poses_at» + 48 * j .poses) → posesOf b j ≡ posesOf a j
 unfolding posesOf
 poses-alike a b j agree = sym (same-numbers a b (j .«poses_at») (j .«poses_at» + 48 * j .poses) agree (6 * j .poses) (j .«poses_at») (omega arith) (omega arith))
 
 -- ---- 29 at offset 0: every length under 40, and every length over 65,536
-pub too-short : (w : ℕ) (bytes : List ℕ) → length bytes < 40 → readJob w bytes ≡ JobRead.Refused (Numbers.refusal Numbers.malformed 0)
+pub too-short : (bytes : List ℕ) → length bytes < 40 → readJob bytes ≡ JobRead.Refused (Numbers.refusal Numbers.malformed 0)
 unfolding readJob jobFrom jobFields sized
-too-short w bytes h = rw (lt-ltb (length bytes) 40 h)
+too-short bytes h = rw (lt-ltb (length bytes) 40 h)
 
-pub too-long : (w : ℕ) (bytes : List ℕ) → 65536 < length bytes → readJob w bytes ≡ JobRead.Refused (Numbers.refusal Numbers.malformed 0)
+pub too-long : (bytes : List ℕ) → 65536 < length bytes → readJob bytes ≡ JobRead.Refused (Numbers.refusal Numbers.malformed 0)
 unfolding readJob jobFrom jobFields sized
-too-long w bytes h =
+too-long bytes h =
     let s : 40 ≤ length bytes = omega (arith, h) in
     rw (le-ltb (length bytes) 40 s, lt-leb (length bytes) 65536 h)

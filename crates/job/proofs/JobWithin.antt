@@ -1,12 +1,12 @@
 -- What a job that was read says of its bytes: chain and poses lie before the trailer, and apart.
-use Prim.Native.Nat.{ℕ, _+_, _-_, _*_, _≤_, _<_}
+use Prim.Native.Nat.{ℕ, suc, _+_, _-_, _*_, _≤_, _<_}
 use native.Mathlib.Omega.{arith}
 use mathlib.Core.Path.{_≡_, refl}
-use mathlib.Core.Bool.{Bool, true, false, not, _||_, and-eq-true-iff, false≢true}
+use mathlib.Core.Bool.{Bool, true, false, not, cond, _||_, and-eq-true-iff, false≢true}
 use mathlib.Core.Logic.{_⊎_, inl, inr}
 use mathlib.Core.List.{List}
 use borrow.Author.Tests.{leb-true, ltb-true, ltb-false, eqb-true, not-true}
-use lib.Dec.{leb, ltb, eqb}
+use lib.Dec.{leb, ltb, eqb, lit≤}
 use lib.ListN.{length, getD}
 use Rattle.refusal.specs.Numbers as Numbers
 use Rattle.chain.specs.declared.Checked.{Checked}
@@ -16,7 +16,7 @@ use Rattle.chain.specs.Check.{demand, oneOrTwo}
 use Rattle.chain.specs.ChainBytes.{chainLength}
 use Rattle.chain.proofs.Bytes.{at-least-one}
 use Rattle.chain.proofs.Passing.{then-passed, demand-passed}
-use Rattle.job.specs.JobBytes.{four, trailer, sized, placesIn, chainEnd, posesEnd, apart, placed, chainIn, jobAt, jobUnless, jobFields, jobFrom, readJob}
+use Rattle.job.specs.JobBytes.{four, trailer, wordLength, sized, placesIn, chainEnd, posesEnd, apart, placed, chainIn, jobAt, jobUnless, jobFields, jobFrom, readJob}
 use Rattle.job.specs.declared.Places.{Places}
 use Rattle.job.specs.declared.Job.{Job}
 use Rattle.job.specs.declared.JobRead.{JobRead}
@@ -39,6 +39,15 @@ pub sized-most : (n : ℕ) → sized n ≡ true → n ≤ 65536
 unfolding sized
 sized-most n e = leb-true n 65536 ((and-eq-true-iff (not (ltb n 40)) (leb n 65536)) .0 e .1)
 
+-- ---- a rotary's record: 72 or 80 bytes
+either-length : (b : Bool) → (72 ≤ cond b 80 72) × (cond b 80 72 ≤ 80)
+either-length true = (lit≤ tt, lit≤ tt)
+either-length false = (lit≤ tt, lit≤ tt)
+
+pub word-wide : (word : ℕ) → 72 ≤ wordLength word
+unfolding wordLength
+word-wide word = either-length (eqb word 1) .0
+
 -- ---- the parts
 pub record Placed (w : ℕ) (bytes : List ℕ) (p : Places) (count : ℕ) : Type 0 where
   pub inside : p .chain < trailer bytes
@@ -46,7 +55,7 @@ pub record Placed (w : ℕ) (bytes : List ℕ) (p : Places) (count : ℕ) : Type
   pub chain-within : p .chain + chainLength w count ≤ trailer bytes
   pub poses-within : p .poses + 48 * p .count ≤ trailer bytes
   pub apart-from : apart p (p .chain + chainLength w count) (p .poses + 48 * p .count) ≡ true
-  pub zero-word : p .word ≡ 0
+  pub known-word : p .word < 2
 
 pub placed-passed : (w : ℕ) (bytes : List ℕ) (p : Places) (count : ℕ) → placed w bytes p count ≡ Checked.Passed → Placed w bytes p count
 unfolding placed chainEnd posesEnd
@@ -63,15 +72,15 @@ placed-passed w bytes p count e =
       chain-within = leb-true _ _ (demand-passed _ _ _ (c .0));
       poses-within = leb-true _ _ (demand-passed _ _ _ (d .0));
       apart-from = demand-passed _ _ _ (f .0);
-      zero-word = eqb-true _ _ (demand-passed _ _ _ (f .1));
+      known-word = ltb-true _ _ (demand-passed _ _ _ (f .1));
     }
 
 -- what the chain's reader needs
-pub chain-room : (bytes : List ℕ) (p : Places) (count : ℕ) → placed 72 bytes p count ≡ Checked.Passed → (1 ≤ count) × (p .chain + (32 + 72 * count) ≤ length bytes)
-chain-room bytes p count e =
-    let q = placed-passed 72 bytes p count e in
+pub chain-room : (w : ℕ) (bytes : List ℕ) (p : Places) (count : ℕ) → 72 ≤ w → placed w bytes p count ≡ Checked.Passed → (1 ≤ count) × (72 ≤ w) × (p .chain + (32 + w * count) ≤ length bytes)
+chain-room w bytes p count wide e =
+    let q = placed-passed w bytes p count e in
     let h = q .chain-within in
-    (at-least-one count (q .counted), omega (arith, h))
+    (at-least-one count (q .counted), wide, omega (arith, h))
 
 -- ---- a job that was read
 given : (c : Checked) (j k : Job) → jobUnless c k ≡ JobRead.Job j → (c ≡ Checked.Passed) × (j ≡ k)
@@ -90,35 +99,52 @@ apart-parts p chain poses e = by-cases (eqb (p .count) 0) (leb poses (p .chain))
     by-cases false false false a b c e = absurd (false≢true e)
 
 -- chain and poses lie before the trailer, which lies in the bytes; with poses they do not overlap
-pub record Within (w : ℕ) (bytes : List ℕ) (j : Job) : Type 0 where
+pub record Within (bytes : List ℕ) (j : Job) : Type 0 where
   pub least : 40 ≤ length bytes
   pub most : length bytes ≤ 65536
-  pub chain-in : j .«chain_at» + chainLength w (j .chain .count) ≤ length bytes - 40
+  pub chain-least : 104 ≤ j .«chain_length»
+  pub chain-in : j .«chain_at» + j .«chain_length» ≤ length bytes - 40
   pub poses-in : j .«poses_at» + 48 * j .poses ≤ length bytes - 40
-  pub apart-from : (j .poses ≡ 0) ⊎ ((j .«poses_at» + 48 * j .poses ≤ j .«chain_at») ⊎ (j .«chain_at» + chainLength w (j .chain .count) ≤ j .«poses_at»))
+  pub apart-from : (j .poses ≡ 0) ⊎ ((j .«poses_at» + 48 * j .poses ≤ j .«chain_at») ⊎ (j .«chain_at» + j .«chain_length» ≤ j .«poses_at»))
 
-module _ (w : ℕ) (bytes : List ℕ) (j : Job) (read : readJob w bytes ≡ JobRead.Job j) where
-  pub fields-passed : jobFields w bytes (placesIn bytes) (byteAt bytes (placesIn bytes .chain)) ≡ Checked.Passed
-  unfolding readJob jobFrom
-  fields-passed = given (jobFields w bytes (placesIn bytes) (byteAt bytes (placesIn bytes .chain))) j _ read .0
+wide-enough : (w count : ℕ) → 72 ≤ w → 1 ≤ count → 104 ≤ 32 + w * count
+wide-enough w (suc n) h l =
+    let e : w * suc n ≡ w * n + w = omega arith in
+    omega (arith, h, e)
 
-  pub job-is : j ≡ jobAt bytes (placesIn bytes) (chainIn w bytes (placesIn bytes) (byteAt bytes (placesIn bytes .chain)))
+module _ (bytes : List ℕ) (j : Job) (read : readJob bytes ≡ JobRead.Job j) where
+  -- how long a rotary's record is, and how many there are
+  abbrev pub w : ℕ
+  w = wordLength (placesIn bytes .word)
+
+  abbrev pub rotary-count : ℕ
+  rotary-count = byteAt bytes (placesIn bytes .chain)
+
+  pub fields-passed : jobFields w bytes (placesIn bytes) rotary-count ≡ Checked.Passed
   unfolding readJob jobFrom
-  job-is = given (jobFields w bytes (placesIn bytes) (byteAt bytes (placesIn bytes .chain))) j _ read .1
+  fields-passed = given (jobFields w bytes (placesIn bytes) rotary-count) j _ read .0
+
+  pub job-is : j ≡ jobAt w bytes (placesIn bytes) (chainIn w bytes (placesIn bytes) rotary-count)
+  unfolding readJob jobFrom
+  job-is = given (jobFields w bytes (placesIn bytes) rotary-count) j _ read .1
 
   length-good : sized (length bytes) ≡ true
   unfolding jobFields
   length-good = demand-passed _ _ _ (then-passed (demand (sized (length bytes)) Numbers.malformed 0) _ fields-passed .0)
 
-  pub parts : Placed w bytes (placesIn bytes) (byteAt bytes (placesIn bytes .chain))
+  pub parts : Placed w bytes (placesIn bytes) rotary-count
   unfolding jobFields
   parts =
       let a = then-passed (demand (sized (length bytes)) Numbers.malformed 0) _ fields-passed in
-      placed-passed w bytes (placesIn bytes) (byteAt bytes (placesIn bytes .chain)) (then-passed (placed w bytes (placesIn bytes) (byteAt bytes (placesIn bytes .chain))) _ (a .1) .0)
+      placed-passed w bytes (placesIn bytes) rotary-count (then-passed (placed w bytes (placesIn bytes) rotary-count) _ (a .1) .0)
 
   pub chain-at : j .«chain_at» ≡ placesIn bytes .chain
   unfolding jobAt
   chain-at = rw job-is
+
+  pub chain-long : j .«chain_length» ≡ chainLength w rotary-count
+  unfolding jobAt chainIn
+  chain-long = rw job-is
 
   pub poses-at : j .«poses_at» ≡ placesIn bytes .poses
   unfolding jobAt
@@ -128,15 +154,16 @@ module _ (w : ℕ) (bytes : List ℕ) (j : Job) (read : readJob w bytes ≡ JobR
   unfolding jobAt
   pose-count = rw job-is
 
-  pub rotaries : j .chain .count ≡ byteAt bytes (placesIn bytes .chain)
+  pub rotaries : j .chain .count ≡ rotary-count
   unfolding jobAt chainIn
   rotaries = rw job-is
 
-  pub within : Within w bytes j
+  pub within : Within bytes j
   within = record {
     least = sized-least (length bytes) length-good;
     most = sized-most (length bytes) length-good;
-    chain-in = rw (chain-at, rotaries) (parts .chain-within);
+    chain-least = rw chain-long (wide-enough w rotary-count (word-wide (placesIn bytes .word)) (at-least-one rotary-count (parts .counted)));
+    chain-in = rw (chain-at, chain-long) (parts .chain-within);
     poses-in = rw (poses-at, pose-count) (parts .poses-within);
-    apart-from = rw (chain-at, rotaries, poses-at, pose-count) (apart-parts _ _ _ (parts .apart-from));
+    apart-from = rw (chain-at, chain-long, poses-at, pose-count) (apart-parts _ _ _ (parts .apart-from));
   }

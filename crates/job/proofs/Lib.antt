@@ -2,9 +2,12 @@ pub mod JobWithin
 pub mod Copying
 pub mod JobBetween
 pub mod JobChain
+pub mod FilesBefore
 pub mod Turns
+pub mod Wound
 pub mod Surveying
 pub mod CableLaws
+pub mod CableBefore
 pub mod Written
 pub mod Lines
 pub mod Texts

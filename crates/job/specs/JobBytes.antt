@@ -1,5 +1,7 @@
--- The bytes of a job: chain, poses and last a trailer of 40 bytes that says where they are; bytes between the parts are ignored. `w` is the length of a rotary's record, 72.
--- A breach is 29 with the offset, in the file, of the first bad field; a count of rotaries other than 1 or 2 is 3, a foreign letter 4 with its rotary.
+-- The bytes of a job: chain, poses and last a trailer of 40 bytes that says where they are; bytes between the parts are
+-- ignored. `w` is the length of a rotary's record: 80 with a rest angle, where the trailer's word is 1, else 72.
+-- A breach is 29 with the offset, in the file, of the first bad field; a count of rotaries other than 1 or 2 is 3, a
+-- foreign letter 4 with its rotary.
 use mathlib.Core.Bool.{Bool, not, cond, _&&_, _||_}
 use mathlib.Core.List.{List, [], _∷_}
 use Prim.Native.Nat.{ℕ, _+_, _-_, _*_, _^_}
@@ -47,6 +49,10 @@ axisField t = t + 32
 abbrev pub four : ℕ → ℕ → ℕ → ℕ → ℕ
 four a b c d = a + b * 256 ^ 1 + c * 256 ^ 2 + d * 256 ^ 3
 
+-- ---- how long a rotary's record is, by the trailer's word
+unfoldable pub wordLength : ℕ → ℕ
+wordLength word = cond (eqb word 1) 80 72
+
 -- ---- where the parts are
 unfoldable pub sized : ℕ → Bool
 sized n = not (ltb n 40) && leb n 65536
@@ -69,7 +75,8 @@ posesEnd p = p .poses + 48 * p .count
 unfoldable pub apart : Places → ℕ → ℕ → Bool
 apart p chainEnd posesEnd = eqb (p .count) 0 || leb posesEnd (p .chain) || leb chainEnd (p .poses)
 
--- `count` is the chain's first byte, the number of its rotaries
+-- `count` is the chain's first byte, the number of its rotaries. The word is judged last: with another than 0 and 1 both
+-- offsets are judged as for 0
 unfoldable pub placed : ℕ → List ℕ → Places → ℕ → Checked
 placed w bytes p count =
     firstRefusal
@@ -78,7 +85,7 @@ placed w bytes p count =
     ∷ demand (leb (chainEnd w p count) (trailer bytes)) Numbers.malformed (chainField (trailer bytes))
     ∷ demand (leb (posesEnd p) (trailer bytes)) Numbers.malformed (posesField (trailer bytes))
     ∷ demand (apart p (chainEnd w p count) (posesEnd p)) Numbers.malformed (posesField (trailer bytes))
-    ∷ demand (eqb (p .word) 0) Numbers.malformed (wordField (trailer bytes))
+    ∷ demand (ltb (p .word) 2) Numbers.malformed (wordField (trailer bytes))
     ∷ [])
 
 -- ---- the chain, where it is
@@ -97,20 +104,21 @@ chainPart w bytes p count =
     ∷ [])
 
 unfoldable pub secondIn : ℕ → List ℕ → Places → ℕ → RotaryJoint
-secondIn w bytes p count = cond (eqb count 2) (rotaryAt bytes (p .chain + secondField w)) noRotary
+secondIn w bytes p count = cond (eqb count 2) (rotaryAt w bytes (p .chain + secondField w)) noRotary
 
 unfoldable pub chainIn : ℕ → List ℕ → Places → ℕ → Kinematics
 chainIn w bytes p count = record {
   count = count;
-  first = rotaryAt bytes (p .chain + firstField);
+  first = rotaryAt w bytes (p .chain + firstField);
   second = secondIn w bytes p count;
   «spindle_axis» = vectorAt bytes (p .chain + spindleField w count);
 }
 
 -- ---- the job
-unfoldable pub jobAt : List ℕ → Places → Kinematics → Job
-jobAt bytes p chain = record {
+unfoldable pub jobAt : ℕ → List ℕ → Places → Kinematics → Job
+jobAt w bytes p chain = record {
   «chain_at» = p .chain;
+  «chain_length» = chainLength w (chain .count);
   «poses_at» = p .poses;
   poses = p .count;
   cone = numberAt bytes (coneField (trailer bytes));
@@ -133,7 +141,7 @@ jobFields w bytes p count =
     ∷ [])
 
 unfoldable pub jobFrom : ℕ → List ℕ → Places → ℕ → JobRead
-jobFrom w bytes p count = jobUnless (jobFields w bytes p count) (jobAt bytes p (chainIn w bytes p count))
+jobFrom w bytes p count = jobUnless (jobFields w bytes p count) (jobAt w bytes p (chainIn w bytes p count))
 
-unfoldable pub readJob : ℕ → List ℕ → JobRead
-readJob w bytes = jobFrom w bytes (placesIn bytes) (byteAt bytes (placesIn bytes .chain))
+unfoldable pub readJob : List ℕ → JobRead
+readJob bytes = jobFrom (wordLength (placesIn bytes .word)) bytes (placesIn bytes) (byteAt bytes (placesIn bytes .chain))

@@ -45,4 +45,4 @@ lentAfter (Checked.Refused r) numbers out = out
 
 -- ---- the entry
 unfoldable pub jobPoses : List ℕ → List Float → List Float
-jobPoses bytes out = lentAfter (posesCheck (readJob 72 bytes) (length out)) (posesIn bytes (readJob 72 bytes)) out
+jobPoses bytes out = lentAfter (posesCheck (readJob bytes) (length out)) (posesIn bytes (readJob bytes)) out

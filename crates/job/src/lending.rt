@@ -45,7 +45,7 @@ fn lend(bytes: &[u8], j: Job, out: &mut [f64]) -> Checked
 
 // The poses of a job, or its first refusal, which keeps the output.
 pub fn job_poses(bytes: &[u8], out: &mut [f64]) -> Checked
-    ensures checked { λ r. ⌜ r ≡ S.posesCheck (readJob 72 (now (bytes .entry))) (length (now (out .entry))) ⌝ }
+    ensures checked { λ r. ⌜ r ≡ S.posesCheck (readJob (now (bytes .entry))) (length (now (out .entry))) ⌝ }
     ensures lent { λ r. ⌜ now (out .exit) ≡ S.jobPoses (now (bytes .entry)) (now (out .entry)) ⌝ }
 {
     if out.len() % 6 != 0 {

@@ -9,12 +9,14 @@ mod winding;
 use chain::Kinematics;
 pub use job_bytes::read_job;
 pub use lending::job_poses;
+pub use placing::word_length;
 use refusal::Refusal;
 pub use spelling::bits_of;
 pub use telling::answer_text;
 pub use winding::cable_number;
 
-// What the trailer says: where chain and poses start, counted from the first byte of the file, how many poses there are, and a word that must be zero.
+// What the trailer says: where chain and poses start, counted from the first byte of the file, how many poses there are,
+// and a word: 1 where each rotary's record has a rest angle, 0 where none has.
 pub struct Places {
     pub chain: u32,
     pub poses: u32,
@@ -25,6 +27,7 @@ pub struct Places {
 // A job without its poses, which stay in the bytes.
 pub struct Job {
     pub chain_at: u32,
+    pub chain_length: usize,
     pub poses_at: u32,
     pub poses: u32,
     pub cone: f64,

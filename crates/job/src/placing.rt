@@ -50,10 +50,23 @@ pub fn places_in(bytes: &[u8]) -> Places
     }
 }
 
-fn chain_end(p: Places, count: u8) -> usize
-    ensures { λ r. ⌜ r ≡ S.chainEnd 72 p count ⌝ }
+// How long a rotary's record is.
+pub fn word_length(word: u32) -> usize
+    ensures length { λ r. ⌜ r ≡ S.wordLength word ⌝ }
+    ensures least { λ r. ⌜ 72 ≤ r ⌝ }
+    ensures most { λ r. ⌜ r ≤ 80 ⌝ }
 {
-    p.chain as usize + (32 + 72 * count as usize)
+    if word == 1 {
+        return 80;
+    }
+    72
+}
+
+fn chain_end(w: usize, p: Places, count: u8) -> usize
+    requires { ⌜ w ≤ 80 ⌝ }
+    ensures { λ r. ⌜ r ≡ S.chainEnd w p count ⌝ }
+{
+    p.chain as usize + (32 + w * count as usize)
 }
 
 fn poses_end(p: Places) -> usize
@@ -76,20 +89,20 @@ fn apart(p: Places, chain: usize, poses: usize) -> bool
 }
 
 // What the trailer says must be, in the order of its fields; the count is judged once its byte is inside.
-pub fn placed(bytes: &[u8], p: Places, count: u8) -> Checked
-    requires { ⌜ 40 ≤ length (now bytes) ⌝ }
-    ensures { λ r. ⌜ r ≡ S.placed 72 (now (bytes .entry)) p count ⌝ }
+pub fn placed(w: usize, bytes: &[u8], p: Places, count: u8) -> Checked
+    requires { ⌜ (w ≤ 80) × (40 ≤ length (now bytes)) ⌝ }
+    ensures { λ r. ⌜ r ≡ S.placed w (now (bytes .entry)) p count ⌝ }
 {
     let trailer = bytes.len() - 40;
     let at = trailer as u64;
-    let chain_end = chain_end(p, count);
+    let chain_end = chain_end(w, p, count);
     let poses_end = poses_end(p);
     let inside = demand((p.chain as usize) < trailer, refusal::MALFORMED, at);
     let counted = demand(one_or_two(count), refusal::ROTARY_COUNT, 0);
     let chain = demand(chain_end <= trailer, refusal::MALFORMED, at);
     let poses = demand(poses_end <= trailer, refusal::MALFORMED, at + 4);
     let apart = demand(apart(p, chain_end, poses_end), refusal::MALFORMED, at + 4);
-    let zero = demand(p.word == 0, refusal::MALFORMED, at + 12);
-    let parts = then(chain, then(poses, then(apart, zero)));
+    let word = demand(p.word < 2, refusal::MALFORMED, at + 12);
+    let parts = then(chain, then(poses, then(apart, word)));
     then(inside, then(counted, parts))
 }

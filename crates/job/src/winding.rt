@@ -1,4 +1,5 @@
-// The cable number of a rotary on a path: how many whole turns its cable is wound at most. The term is document 01's.
+// The cable number of a rotary on a path: how many whole turns its cable is wound at most, from the angle at which it
+// hangs free. The term is that of documents 01 and 02.
 ghost use mathlib.Core.Path.{_≡_};
 ghost use Rattle.job.specs.Cable as S;
 use crate::Cable;
@@ -9,12 +10,12 @@ use chain::Kinematics;
 use chain::demand;
 use chain::then;
 
-// The whole turns in an angle of at most 36,000 degrees; of any other, which a check refuses, none.
-fn turns_within(angle: f64) -> u64
-    ensures { λ r. ⌜ r ≡ S.turnsWithin angle ⌝ }
+// The whole turns in a wind of at most 72,000 degrees; of any other, which no path has that a check lets by, none.
+fn turns_within(wind: f64) -> u64
+    ensures { λ r. ⌜ r ≡ S.turnsWithin wind ⌝ }
 {
-    if chain::within(angle, 36000.0) {
-        let size = float::size(angle);
+    if chain::within(wind, 72000.0) {
+        let size = float::size(wind);
         return std::num::truncating_f64_to_u64(size) / 360;
     }
     0
@@ -27,6 +28,17 @@ fn angle_of(rotary: usize, j: Joints) -> f64
         return j.a0;
     }
     j.a1
+}
+
+fn rest_of(k: Kinematics, rotary: usize) -> f64
+    ensures { λ r. ⌜ r ≡ S.restOf k rotary ⌝ }
+{
+    let first = k.first;
+    let second = k.second;
+    if rotary == 0 {
+        return first.rest;
+    }
+    second.rest
 }
 
 fn larger(a: u64, b: u64) -> u64
@@ -48,12 +60,13 @@ fn also(a: bool, b: bool) -> bool
 }
 
 // One joint set more.
-fn surveyed(rotary: usize, s: Survey, j: Joints) -> Survey
-    ensures { λ r. ⌜ r ≡ S.surveyed rotary s j ⌝ }
+fn surveyed(rest: f64, rotary: usize, s: Survey, j: Joints) -> Survey
+    ensures { λ r. ⌜ r ≡ S.surveyed rest rotary s j ⌝ }
 {
     let finite = also(s.finite, chain::joints_finite(j));
     let within = also(s.within, chain::joints_within(j));
-    let turns = larger(s.turns, turns_within(angle_of(rotary, j)));
+    let wind = angle_of(rotary, j) - rest;
+    let turns = larger(s.turns, turns_within(wind));
     Survey {
         finite,
         within,
@@ -61,8 +74,8 @@ fn surveyed(rotary: usize, s: Survey, j: Joints) -> Survey
     }
 }
 
-fn survey(rotary: usize, joints: &[f64]) -> Survey
-    ensures { λ r. ⌜ r ≡ S.survey rotary (S.jointSets (now (joints .entry))) ⌝ }
+fn survey(rest: f64, rotary: usize, joints: &[f64]) -> Survey
+    ensures { λ r. ⌜ r ≡ S.survey rest rotary (S.jointSets (now (joints .entry))) ⌝ }
 {
     let n = joints.len() / 5;
     let mut s = Survey {
@@ -73,7 +86,7 @@ fn survey(rotary: usize, joints: &[f64]) -> Survey
     let mut i = 0;
     while i < n {
         let j = turn::joints_in(joints, i * 5);
-        s = surveyed(rotary, s, j);
+        s = surveyed(rest, rotary, s, j);
         i += 1;
     }
     s
@@ -82,7 +95,7 @@ fn survey(rotary: usize, joints: &[f64]) -> Survey
 fn cable_sizes(k: Kinematics, within: bool) -> bool
     ensures { λ r. ⌜ r ≡ S.cableSizes k within ⌝ }
 {
-    if chain::pivots_within(k) {
+    if chain::chain_within(k) {
         return within;
     }
     false
@@ -102,7 +115,8 @@ fn cable_check(k: Kinematics, numbers: usize, s: Survey) -> Checked
 pub fn cable_number(k: Kinematics, joints: &[f64], rotary: usize) -> Cable
     ensures { λ r. ⌜ r ≡ S.cableNumber k (now (joints .entry)) rotary ⌝ }
 {
-    let s = survey(rotary, joints);
+    let rest = rest_of(k, rotary);
+    let s = survey(rest, rotary, joints);
     let checked = cable_check(k, joints.len(), s);
     if let Checked::Refused(r) = checked {
         return Cable::Refused(r);

@@ -16,9 +16,9 @@ use Rattle.job.specs.Cable.{cableNumber}
 use Rattle.job.proofs.CableLaws.{cable-largest}
 use Rattle.maztubel.specs.JobEntries.{cableRead, cableOf, CablePromise}
 
-pub cable-promised : (chain : List ℕ) (joints : List Float) (rotary : ℕ) → CablePromise (readChain 72 chain) joints rotary (cableOf chain joints rotary)
+pub cable-promised : (chain : List ℕ) (joints : List Float) (rotary : ℕ) → CablePromise (readChain chain) joints rotary (cableOf chain joints rotary)
 unfolding cableOf
-cable-promised chain joints rotary = by-read (eqb (length joints % 5) 0) (readChain 72 chain)
+cable-promised chain joints rotary = by-read (eqb (length joints % 5) 0) (readChain chain)
   where
     by-read : (whole : Bool) (read : ChainRead) → CablePromise read joints rotary (cond (not whole) (Cable.Refused (refusal lengthsDiffer 0)) (cableRead read joints rotary))
     by-read false (ChainRead.Refused r) = tt

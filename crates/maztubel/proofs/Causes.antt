@@ -8,6 +8,7 @@ use mathlib.Core.List.{List, [], _∷_}
 use lib.Dec.{eqb, leb, ltb}
 use lib.ListN.{length}
 use lib.Ieee as Ieee
+use lib.Ieee.Scale.{finite}
 use lib.Ieee.{Float}
 use Rattle.lists.specs.Rows.{flat}
 use Rattle.refusal.specs.declared.Refusal.{Refusal}
@@ -26,7 +27,7 @@ use Rattle.chain.specs.declared.Kinematics.{Kinematics}
 use Rattle.chain.specs.declared.RotaryJoint.{RotaryJoint}
 use Rattle.chain.specs.declared.ToolPose.{ToolPose}
 use Rattle.chain.specs.Bytes.{byteAt, spare}
-use Rattle.chain.specs.ChainBytes.{countField, emptyField, firstField, secondField, carrierField, limitsField, emptyFields, minField, maxField, chainLength, zeros, flag, rotaryFields, secondFields, chainFields, chainAt, noChain, malformed, chainUnless, readCount, readChain}
+use Rattle.chain.specs.ChainBytes.{countField, emptyField, firstField, secondField, carrierField, limitsField, emptyFields, minField, maxField, chainLength, zeros, flag, rotaryFields, secondFields, chainFields, chainAt, noChain, malformed, chainUnless, recordLength, readCount, readCounted, readChain}
 use Rattle.chain.specs.Check.{demand, then, firstRefusal, knownLetter, otherLetter, hasDirection, travelGood, rotaryCheck, oneOrTwo, secondCheck, chainCheck, allWithin, longest}
 use Rattle.inverse.specs.Subproblem.{shortest}
 use Rattle.inverse.specs.AxisMap.{axisMapOf}
@@ -102,6 +103,7 @@ rotary-cause j earlier i =
     ∷ demand (hasDirection (j .axis)) Numbers.rotaryAxisZero i
     ∷ demand (allFinite (j .pivot)) Numbers.chainNotFinite i
     ∷ demand (travelGood (j .limits)) Numbers.limitsRefused i
+    ∷ demand (finite (j .rest)) Numbers.chainNotFinite i
     ∷ []) (
       demand-cause (knownLetter (j .letter)) Numbers.rotaryLetter i refl,
       (
@@ -110,7 +112,10 @@ rotary-cause j earlier i =
           demand-cause (allFinite (j .axis)) Numbers.chainNotFinite i refl,
           (
             demand-cause (hasDirection (j .axis)) Numbers.rotaryAxisZero i refl,
-            (demand-cause (allFinite (j .pivot)) Numbers.chainNotFinite i refl, (demand-cause (travelGood (j .limits)) Numbers.limitsRefused i refl, tt)),
+            (
+              demand-cause (allFinite (j .pivot)) Numbers.chainNotFinite i refl,
+              (demand-cause (travelGood (j .limits)) Numbers.limitsRefused i refl, (demand-cause (finite (j .rest)) Numbers.chainNotFinite i refl, tt)),
+            ),
           ),
         ),
       ),
@@ -199,10 +204,11 @@ unless-read : (c : Checked) (k : Kinematics) → CheckCause c → ReadCause (cha
 unless-read Checked.Passed k h = tt
 unless-read (Checked.Refused r) k h = h
 
-read-cause : (w : ℕ) (bytes : List ℕ) → ReadCause (readChain w bytes)
-unfolding readChain readCount
-read-cause w bytes =
+read-cause : (bytes : List ℕ) → ReadCause (readChain bytes)
+unfolding readChain readCounted readCount
+read-cause bytes =
     let count = byteAt bytes countField in
+    let w = recordLength (length bytes) count in
     cond-read (ltb (length bytes) 1) (malformed 0) (readCount w bytes count) refl
     (cond-read (not (oneOrTwo count)) (ChainRead.Chain (noChain count)) _ tt
     (cond-read (not (eqb (length bytes) (chainLength w count))) (malformed 0) (chainUnless (chainFields w bytes count) (chainAt w bytes count)) refl
@@ -438,14 +444,14 @@ both-read-cause (ChainRead.Chain k) poses start cone tol a b h = both-cause k po
 subdivide-cause : (chain : List ℕ) (tol : Tolerances) (poses joints : List Float) (a b : ℕ) → AnswerCause (subdivideOf chain tol poses joints a b)
 unfolding subdivideOf
 subdivide-cause chain tol poses joints a b =
-    cond-answer (not (fourWhole (length poses) (length joints) a b)) _ (subdivideRead (readChain 72 chain) tol poses joints a b) refl
-    (subdivide-read-cause (readChain 72 chain) tol poses joints a b (read-cause 72 chain))
+    cond-answer (not (fourWhole (length poses) (length joints) a b)) _ (subdivideRead (readChain chain) tol poses joints a b) refl
+    (subdivide-read-cause (readChain chain) tol poses joints a b (read-cause chain))
 
 both-entry-cause : (chain : List ℕ) (poses start : List Float) (cone : Float) (tol : Tolerances) (a b : ℕ) → AnswerCause (bothOf chain poses start cone tol a b)
 unfolding bothOf
 both-entry-cause chain poses start cone tol a b =
-    cond-answer (not (bothLengths (length poses) (length start) a b)) _ (bothRead (readChain 72 chain) poses (startIn start) cone tol a b) refl
-    (both-read-cause (readChain 72 chain) poses (startIn start) cone tol a b (read-cause 72 chain))
+    cond-answer (not (bothLengths (length poses) (length start) a b)) _ (bothRead (readChain chain) poses (startIn start) cone tol a b) refl
+    (both-read-cause (readChain chain) poses (startIn start) cone tol a b (read-cause chain))
 
 -- ---- what the number says
 not-served : (r : Refusal) → Cause r → r .number ≡ Numbers.served → ⊥

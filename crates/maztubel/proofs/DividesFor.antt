@@ -45,7 +45,7 @@ module _ (chain : List ℕ) (tol : Tolerances) (lent solved p₀ j₀ : List Flo
   So said poses joints =
       (said ≡ divisionIn whole)
       × ((poses ≡ posesLeft whole p₀)
-      × ((joints ≡ jointsLeft whole j₀) × SubdividePromise (readChain 72 chain) tol lent solved (length p₀) (length j₀) (divisionIn whole) poses joints))
+      × ((joints ≡ jointsLeft whole j₀) × SubdividePromise (readChain chain) tol lent solved (length p₀) (length j₀) (divisionIn whole) poses joints))
 
   abbrev Both : Kinematics → Division → List Float → List Float → Type 0
   Both k said poses joints = IfSolved k tol lent solved (length p₀) (length j₀) said poses joints × Later k tol lent solved (length p₀) (length j₀) said poses joints
@@ -54,14 +54,14 @@ module _ (chain : List ℕ) (tol : Tolerances) (lent solved p₀ j₀ : List Flo
   unfolding subdivideOf posesLeft jointsLeft
   subdivide-lengths e s =
       let w = not-true (fourWhole (length lent) (length solved) (length p₀) (length j₀)) e in
-      (rw e s, (rw e, (rw e, rw e (refused-promise (readChain 72 chain) tol lent solved (length p₀) (length j₀) p₀ j₀ w refl))))
+      (rw e s, (rw e, (rw e, rw e (refused-promise (readChain chain) tol lent solved (length p₀) (length j₀) p₀ j₀ w refl))))
 
-  pub subdivide-bytes : {r : Refusal} → not (fourWhole (length lent) (length solved) (length p₀) (length j₀)) ≡ false → readChain 72 chain ≡ ChainRead.Refused r → So (Refused r) p₀ j₀
+  pub subdivide-bytes : {r : Refusal} → not (fourWhole (length lent) (length solved) (length p₀) (length j₀)) ≡ false → readChain chain ≡ ChainRead.Refused r → So (Refused r) p₀ j₀
   unfolding subdivideOf posesLeft jointsLeft
   subdivide-bytes e f = (rw (e, f), (rw (e, f), (rw (e, f), rw (e, f) tt)))
 
   pub subdivide-chain : {k : Kinematics} {said : Division} {poses joints : List Float} → not (fourWhole (length lent) (length solved) (length p₀) (length j₀)) ≡ false
-      → readChain 72 chain ≡ ChainRead.Chain k
+      → readChain chain ≡ ChainRead.Chain k
       → (said ≡ divisionIn (subdividePath k tol lent solved (length p₀) (length j₀)))
       × ((poses ≡ posesLeft (subdividePath k tol lent solved (length p₀) (length j₀)) p₀)
       × ((joints ≡ jointsLeft (subdividePath k tol lent solved (length p₀) (length j₀)) j₀) × Both k said poses joints))
@@ -84,17 +84,17 @@ module _ (chain : List ℕ) (lent start : List Float) (cone : Float) (tol : Tole
   BothSo said poses joints =
       (said ≡ divisionIn both)
       × ((poses ≡ posesLeft both p₀)
-      × ((joints ≡ jointsLeft both j₀) × BothPromise good (readChain 72 chain) lent (startIn start) cone tol (divisionIn both) p₀ j₀ poses joints))
+      × ((joints ≡ jointsLeft both j₀) × BothPromise good (readChain chain) lent (startIn start) cone tol (divisionIn both) p₀ j₀ poses joints))
 
   pub both-lengths-bad : {said : Division} → not good ≡ true → said ≡ lengthsRefused → BothSo said p₀ j₀
   unfolding bothOf posesLeft jointsLeft
   both-lengths-bad e s = let g = not-true good e in (rw e s, (rw e, (rw e, rw g tt)))
 
-  pub both-bytes : {r : Refusal} → not good ≡ false → readChain 72 chain ≡ ChainRead.Refused r → BothSo (Refused r) p₀ j₀
+  pub both-bytes : {r : Refusal} → not good ≡ false → readChain chain ≡ ChainRead.Refused r → BothSo (Refused r) p₀ j₀
   unfolding bothOf posesLeft jointsLeft
   both-bytes e f = let g = not-false good e in (rw (e, f), (rw (e, f), (rw (e, f), rw (g, f) tt)))
 
-  pub both-chain : {k : Kinematics} {said : Division} {poses joints : List Float} → not good ≡ false → readChain 72 chain ≡ ChainRead.Chain k
+  pub both-chain : {k : Kinematics} {said : Division} {poses joints : List Float} → not good ≡ false → readChain chain ≡ ChainRead.Chain k
       → (said ≡ divisionIn (solveAndDivide k lent (startIn start) cone tol (length p₀) (length j₀)))
       × ((poses ≡ posesLeft (solveAndDivide k lent (startIn start) cone tol (length p₀) (length j₀)) p₀)
       × ((joints ≡ jointsLeft (solveAndDivide k lent (startIn start) cone tol (length p₀) (length j₀)) j₀)

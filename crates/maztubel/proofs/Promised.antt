@@ -19,6 +19,6 @@ read-promised (ChainRead.Refused r) bad poses start cone room = tt
 read-promised (ChainRead.Chain k) true poses start cone room = tt
 read-promised (ChainRead.Chain k) false poses start cone room = path-served k poses start cone room
 
-pub promised : (chain : List ℕ) (poses start : List Float) (cone : Float) (room : ℕ) → Promised (readChain 72 chain) (solvePathOf chain poses start cone room)
+pub promised : (chain : List ℕ) (poses start : List Float) (cone : Float) (room : ℕ) → Promised (readChain chain) (solvePathOf chain poses start cone room)
 unfolding solvePathOf
-promised chain poses start cone room = read-promised (readChain 72 chain) (not (lengthsGood (length poses) room (length start))) poses (startIn start) cone room
+promised chain poses start cone room = read-promised (readChain chain) (not (lengthsGood (length poses) room (length start))) poses (startIn start) cone room

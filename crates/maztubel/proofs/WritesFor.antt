@@ -29,17 +29,17 @@ none-promised (ChainRead.Chain k) poses cone tol room h =
 module _ (chain : List ℕ) (poses : List Float) (cone : Float) (tol : Tolerances) (o : List ℕ) where
   abbrev So : Written → List ℕ → Type 0
   So said out =
-      (said ≡ writeOf chain poses cone tol (length o)) × ((out ≡ jobLeft chain poses cone tol o) × WritePromise (readChain 72 chain) poses cone tol (length o))
+      (said ≡ writeOf chain poses cone tol (length o)) × ((out ≡ jobLeft chain poses cone tol o) × WritePromise (readChain chain) poses cone tol (length o))
 
   pub write-lengths : (length poses % 6 ≡ 0 → ⊥) → So (Written.Refused (refusal lengthsDiffer 0)) o
   unfolding writeOf jobLeft
-  write-lengths h = let e = ne-eqb _ _ h in (rw e, (rw e, none-promised (readChain 72 chain) poses cone tol (length o) h))
+  write-lengths h = let e = ne-eqb _ _ h in (rw e, (rw e, none-promised (readChain chain) poses cone tol (length o) h))
 
-  pub write-bytes : {r : Refusal} → length poses % 6 ≡ 0 → readChain 72 chain ≡ ChainRead.Refused r → So (Written.Refused r) o
+  pub write-bytes : {r : Refusal} → length poses % 6 ≡ 0 → readChain chain ≡ ChainRead.Refused r → So (Written.Refused r) o
   unfolding writeOf jobLeft
   write-bytes h f = let e = eq-eqb _ _ h in (rw (e, f), (rw (e, f), rw f tt))
 
-  pub write-chain : {k : Kinematics} {said : Written} {out : List ℕ} → length poses % 6 ≡ 0 → readChain 72 chain ≡ ChainRead.Chain k
+  pub write-chain : {k : Kinematics} {said : Written} {out : List ℕ} → length poses % 6 ≡ 0 → readChain chain ≡ ChainRead.Chain k
       → (said ≡ writtenAnswer k poses cone tol (length o)) × ((out ≡ writtenJob k poses cone tol o) × (ReadBack k poses cone tol (length o) × Rewritten k poses cone tol (length o)))
       → So said out
   unfolding writeOf jobLeft

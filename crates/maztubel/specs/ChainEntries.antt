@@ -24,13 +24,13 @@ checkRead (ChainRead.Refused r) = Checked.Refused r
 checkRead (ChainRead.Chain k) = then (chainCheck k) (chainSizes k)
 
 unfoldable pub checkChain : List ℕ → Checked
-checkChain chain = checkRead (readChain 72 chain)
+checkChain chain = checkRead (readChain chain)
 
 -- ---- forward
 -- `room` is how many numbers the lent pose has
 unfoldable pub forwardOf : List ℕ → List Float → Float → ℕ → Posed
 forwardOf chain joints tool room =
-    cond (eqb (length joints) 5 && eqb room 6) (forwardRead (readChain 72 chain) (jointsIn joints) tool) (Posed.Refused (refusal lengthsDiffer 0))
+    cond (eqb (length joints) 5 && eqb room 6) (forwardRead (readChain chain) (jointsIn joints) tool) (Posed.Refused (refusal lengthsDiffer 0))
 
 abbrev pub posedCheck : Posed → Checked
 posedCheck (Posed.At p) = Checked.Passed

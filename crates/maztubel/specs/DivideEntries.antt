@@ -72,7 +72,7 @@ subdivideRead (ChainRead.Chain k) tol poses joints roomPoses roomJoints = subdiv
 unfoldable pub subdivideOf : List ℕ → Tolerances → (poses joints : List Float) → (roomPoses roomJoints : ℕ) → DivisionAnswer
 subdivideOf chain tol poses joints roomPoses roomJoints =
     cond (not (fourWhole (length poses) (length joints) roomPoses roomJoints)) (Kept (refusal lengthsDiffer 0))
-    (subdivideRead (readChain 72 chain) tol poses joints roomPoses roomJoints)
+    (subdivideRead (readChain chain) tol poses joints roomPoses roomJoints)
 
 -- demand 3, of joints that `solve_path` gives for this chain and these poses; and what R-12 says of looser tolerances
 -- and of a second division, of any joints
@@ -92,7 +92,7 @@ bothRead (ChainRead.Chain k) poses start cone tol roomPoses roomJoints = solveAn
 unfoldable pub bothOf : List ℕ → (poses start : List Float) → Float → Tolerances → (roomPoses roomJoints : ℕ) → DivisionAnswer
 bothOf chain poses start cone tol roomPoses roomJoints =
     cond (not (bothLengths (length poses) (length start) roomPoses roomJoints)) (Kept (refusal lengthsDiffer 0))
-    (bothRead (readChain 72 chain) poses (startIn start) cone tol roomPoses roomJoints)
+    (bothRead (readChain chain) poses (startIn start) cone tol roomPoses roomJoints)
 
 -- demand 3 and R-12, and on every refusal what the outputs hold; of lengths that are refused `bothOf` says it
 abbrev pub BothPromise : Bool → ChainRead → List Float → Start → Float → Tolerances → Division → (poses₀ joints₀ poses joints : List Float) → Type 0

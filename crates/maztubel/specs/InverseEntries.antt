@@ -61,7 +61,7 @@ inverseRead (ChainRead.Chain k) pose tool hint = inverse k pose tool hint
 -- `room` is how many numbers the lent list has
 unfoldable pub inverseOf : List ℕ → List Float → Float → List Float → ℕ → Answers
 inverseOf chain pose tool hint room =
-    cond (eqb (length pose) 6 && eqb (length hint) 2 && eqb room 250) (inverseRead (readChain 72 chain) (poseIn pose) tool (anglesIn hint))
+    cond (eqb (length pose) 6 && eqb (length hint) 2 && eqb room 250) (inverseRead (readChain chain) (poseIn pose) tool (anglesIn hint))
     (refusedAnswers lengthsRefused)
 
 abbrev pub chooseRead : ChainRead → ToolPose → Float → Choice → Chosen
@@ -72,7 +72,7 @@ chooseRead (ChainRead.Chain k) pose tool choice = choose k pose tool choice
 unfoldable pub chooseOf : List ℕ → List Float → Float → ℕ → List Float → ℕ → Chosen
 chooseOf chain pose tool choice hint room =
     cond (eqb (length pose) 6 && eqb (length hint) 2 && eqb room 5 && ltb choice 3)
-    (chooseRead (readChain 72 chain) (poseIn pose) tool (choiceOf choice (anglesIn hint)))
+    (chooseRead (readChain chain) (poseIn pose) tool (choiceOf choice (anglesIn hint)))
     (Chosen.Refused lengthsRefused)
 
 abbrev pub chosenCheck : Chosen → Checked

@@ -25,7 +25,7 @@ modelRead (ChainRead.Refused r) name model = Checked.Refused r
 modelRead (ChainRead.Chain k) name model = checkModel name k model
 
 unfoldable pub checkModelOf : List ℕ → List ℕ → List ℕ → Checked
-checkModelOf name chain model = modelRead (readChain 72 chain) name model
+checkModelOf name chain model = modelRead (readChain chain) name model
 
 -- ---- link frames: a call of `model`, from a chain's name, the chain, a model, joints and a carrier
 abbrev pub Link : Type 0
@@ -38,7 +38,7 @@ linkRead link (ChainRead.Chain k) name model j carrier = link name k model j car
 -- `room` is how many numbers the lent frame has
 unfoldable pub linkOf : Link → List ℕ → List ℕ → List ℕ → List Float → List ℕ → ℕ → Placed
 linkOf link name chain model joints carrier room =
-    cond (eqb (length joints) 5 && eqb room 12) (linkRead link (readChain 72 chain) name model (jointsIn joints) carrier)
+    cond (eqb (length joints) 5 && eqb room 12) (linkRead link (readChain chain) name model (jointsIn joints) carrier)
     (Placed.Refused (refusal lengthsDiffer 0))
 
 abbrev pub placedCheck : Placed → Checked

@@ -33,7 +33,7 @@ solvePathRead (ChainRead.Chain k) poses start cone room = solvePath k poses star
 unfoldable pub solvePathOf : List ℕ → List Float → List Float → Float → ℕ → PathAnswer
 solvePathOf chain poses start cone room =
     cond (not (lengthsGood (length poses) room (length start))) (Kept (refusal lengthsDiffer 0))
-    (solvePathRead (readChain 72 chain) poses (startIn start) cone room)
+    (solvePathRead (readChain chain) poses (startIn start) cone room)
 
 -- every joint set of a path that is solved: finite, within its rotaries' limits and 36,000 degrees
 abbrev pub Promised : ChainRead → PathAnswer → Type 0

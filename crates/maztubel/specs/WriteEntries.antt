@@ -23,7 +23,7 @@ writeRead (ChainRead.Refused r) poses cone tol room = Written.Refused r
 writeRead (ChainRead.Chain k) poses cone tol room = writtenAnswer k poses cone tol room
 
 unfoldable pub writeOf : List ℕ → List Float → Float → Tolerances → (room : ℕ) → Written
-writeOf chain poses cone tol room = cond (not (eqb (length poses % 6) 0)) (Written.Refused (refusal lengthsDiffer 0)) (writeRead (readChain 72 chain) poses cone tol room)
+writeOf chain poses cone tol room = cond (not (eqb (length poses % 6) 0)) (Written.Refused (refusal lengthsDiffer 0)) (writeRead (readChain chain) poses cone tol room)
 
 abbrev pub writtenCheck : Written → Checked
 writtenCheck (Written.Bytes n) = Checked.Passed
@@ -40,7 +40,7 @@ jobRead (ChainRead.Refused r) poses cone tol out = out
 jobRead (ChainRead.Chain k) poses cone tol out = writtenJob k poses cone tol out
 
 unfoldable pub jobLeft : List ℕ → List Float → Float → Tolerances → (out : List ℕ) → List ℕ
-jobLeft chain poses cone tol out = cond (not (eqb (length poses % 6) 0)) out (jobRead (readChain 72 chain) poses cone tol out)
+jobLeft chain poses cone tol out = cond (not (eqb (length poses % 6) 0)) out (jobRead (readChain chain) poses cone tol out)
 
 -- ---- what the reader gets from a job that was written is what was given, and is written again to the same bytes
 abbrev pub WritePromise : ChainRead → List Float → Float → Tolerances → (room : ℕ) → Type 0

@@ -17,6 +17,7 @@ use refusal::Refusal;
 pub extern "C" fn maztubel_read_job(
     job: &[u8],
     chain_at: &mut u64,
+    chain_length: &mut u64,
     poses_at: &mut u64,
     count: &mut u64,
     cone: &mut f64,
@@ -24,25 +25,28 @@ pub extern "C" fn maztubel_read_job(
     axis: &mut f64,
     at: &mut u64,
 ) -> u32
-    ensures number { λ n. ⌜ n ≡ Lent.numberIn (S.readCheck (readJob 72 (now (job .entry)))) ⌝ }
-    ensures place { λ n. ⌜ now (at .exit) ≡ Lent.placeIn (S.readCheck (readJob 72 (now (job .entry)))) ⌝ }
-    ensures chain { λ n. ⌜ now («chain_at» .exit) ≡ S.chainOver (readJob 72 (now (job .entry))) (now («chain_at» .entry)) ⌝ }
-    ensures poses { λ n. ⌜ now («poses_at» .exit) ≡ S.posesOver (readJob 72 (now (job .entry))) (now («poses_at» .entry)) ⌝ }
-    ensures count { λ n. ⌜ now (count .exit) ≡ S.countOver (readJob 72 (now (job .entry))) (now (count .entry)) ⌝ }
-    ensures cone { λ n. ⌜ now (cone .exit) ≡ S.coneOver (readJob 72 (now (job .entry))) (now (cone .entry)) ⌝ }
-    ensures chord { λ n. ⌜ now (chord .exit) ≡ S.chordOver (readJob 72 (now (job .entry))) (now (chord .entry)) ⌝ }
-    ensures axis { λ n. ⌜ now (axis .exit) ≡ S.axisOver (readJob 72 (now (job .entry))) (now (axis .entry)) ⌝ }
+    ensures number { λ n. ⌜ n ≡ Lent.numberIn (S.readCheck (readJob (now (job .entry)))) ⌝ }
+    ensures place { λ n. ⌜ now (at .exit) ≡ Lent.placeIn (S.readCheck (readJob (now (job .entry)))) ⌝ }
+    ensures chain { λ n. ⌜ now («chain_at» .exit) ≡ S.chainOver (readJob (now (job .entry))) (now («chain_at» .entry)) ⌝ }
+    ensures length { λ n. ⌜ now («chain_length» .exit) ≡ S.lengthOver (readJob (now (job .entry))) (now («chain_length» .entry)) ⌝ }
+    ensures poses { λ n. ⌜ now («poses_at» .exit) ≡ S.posesOver (readJob (now (job .entry))) (now («poses_at» .entry)) ⌝ }
+    ensures count { λ n. ⌜ now (count .exit) ≡ S.countOver (readJob (now (job .entry))) (now (count .entry)) ⌝ }
+    ensures cone { λ n. ⌜ now (cone .exit) ≡ S.coneOver (readJob (now (job .entry))) (now (cone .entry)) ⌝ }
+    ensures chord { λ n. ⌜ now (chord .exit) ≡ S.chordOver (readJob (now (job .entry))) (now (chord .entry)) ⌝ }
+    ensures axis { λ n. ⌜ now (axis .exit) ≡ S.axisOver (readJob (now (job .entry))) (now (axis .entry)) ⌝ }
+    ensures promise { λ n. ⌜ S.ChainPromise (now (job .entry)) (readJob (now (job .entry))) ⌝ }
 {
     let read = job::read_job(job);
-    put_places(read, chain_at, poses_at, count);
+    put_chain_places(read, chain_at, chain_length);
+    put_places(read, poses_at, count);
     put_tolerances(read, cone, chord, axis);
     hand_place(read_check(read), at)
 }
 
 #[no_mangle]
 pub extern "C" fn maztubel_job_poses(job: &[u8], poses: &mut [f64], at: &mut u64) -> u32
-    ensures number { λ n. ⌜ n ≡ Lent.numberIn (posesCheck (readJob 72 (now (job .entry))) (length (now (poses .entry)))) ⌝ }
-    ensures place { λ n. ⌜ now (at .exit) ≡ Lent.placeIn (posesCheck (readJob 72 (now (job .entry))) (length (now (poses .entry)))) ⌝ }
+    ensures number { λ n. ⌜ n ≡ Lent.numberIn (posesCheck (readJob (now (job .entry))) (length (now (poses .entry)))) ⌝ }
+    ensures place { λ n. ⌜ now (at .exit) ≡ Lent.placeIn (posesCheck (readJob (now (job .entry))) (length (now (poses .entry)))) ⌝ }
     ensures lent { λ n. ⌜ now (poses .exit) ≡ jobPoses (now (job .entry)) (now (poses .entry)) ⌝ }
 {
     let checked = job::job_poses(job, poses);
@@ -62,7 +66,7 @@ pub extern "C" fn maztubel_cable_number(
     ensures place { λ n. ⌜ now (at .exit) ≡ Lent.placeIn (S.cableCheck (S.cableOf (now (chain .entry)) (now (joints .entry)) rotary)) ⌝ }
     ensures named { λ n. ⌜ now (letter .exit) ≡ Lent.letterIn (S.cableCheck (S.cableOf (now (chain .entry)) (now (joints .entry)) rotary)) ⌝ }
     ensures lent { λ n. ⌜ now (number .exit) ≡ S.numberOver (S.cableOf (now (chain .entry)) (now (joints .entry)) rotary) (now (number .entry)) ⌝ }
-    ensures largest { λ n. ⌜ S.CablePromise (readChain 72 (now (chain .entry))) (now (joints .entry)) rotary (S.cableOf (now (chain .entry)) (now (joints .entry)) rotary) ⌝ }
+    ensures largest { λ n. ⌜ S.CablePromise (readChain (now (chain .entry))) (now (joints .entry)) rotary (S.cableOf (now (chain .entry)) (now (joints .entry)) rotary) ⌝ }
 {
     let cable = cable_of(chain, joints, rotary);
     put_cable(cable, number);
@@ -96,15 +100,24 @@ fn read_check(read: JobRead) -> Checked
     }
 }
 
-fn put_places(read: JobRead, chain_at: &mut u64, poses_at: &mut u64, count: &mut u64)
+fn put_chain_places(read: JobRead, chain_at: &mut u64, chain_length: &mut u64)
     ensures chain { λ u. ⌜ now («chain_at» .exit) ≡ S.chainOver read (now («chain_at» .entry)) ⌝ }
+    ensures length { λ u. ⌜ now («chain_length» .exit) ≡ S.lengthOver read (now («chain_length» .entry)) ⌝ }
+{
+    let JobRead::Job(j) = read else {
+        return;
+    };
+    *chain_at = j.chain_at as u64;
+    *chain_length = j.chain_length as u64;
+}
+
+fn put_places(read: JobRead, poses_at: &mut u64, count: &mut u64)
     ensures poses { λ u. ⌜ now («poses_at» .exit) ≡ S.posesOver read (now («poses_at» .entry)) ⌝ }
     ensures count { λ u. ⌜ now (count .exit) ≡ S.countOver read (now (count .entry)) ⌝ }
 {
     let JobRead::Job(j) = read else {
         return;
     };
-    *chain_at = j.chain_at as u64;
     *poses_at = j.poses_at as u64;
     *count = j.poses as u64;
 }

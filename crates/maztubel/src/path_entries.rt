@@ -25,7 +25,7 @@ pub extern "C" fn maztubel_solve_path(
     ensures place { λ n. ⌜ now (at .exit) ≡ Lent.placeIn (Path.checkedIn (S.solvePathOf (now (chain .entry)) (now (poses .entry)) (now (start .entry)) cone (length (now (joints .entry))))) ⌝ }
     ensures named { λ n. ⌜ now (letter .exit) ≡ Lent.letterIn (Path.checkedIn (S.solvePathOf (now (chain .entry)) (now (poses .entry)) (now (start .entry)) cone (length (now (joints .entry))))) ⌝ }
     ensures lent { λ n. ⌜ now (joints .exit) ≡ Path.pathOver (S.solvePathOf (now (chain .entry)) (now (poses .entry)) (now (start .entry)) cone (length (now (joints .entry)))) (now (joints .entry)) ⌝ }
-    ensures served { λ n. ⌜ S.Promised (readChain 72 (now (chain .entry))) (S.solvePathOf (now (chain .entry)) (now (poses .entry)) (now (start .entry)) cone (length (now (joints .entry)))) ⌝ }
+    ensures served { λ n. ⌜ S.Promised (readChain (now (chain .entry))) (S.solvePathOf (now (chain .entry)) (now (poses .entry)) (now (start .entry)) cone (length (now (joints .entry)))) ⌝ }
 {
     let checked = solve_path_of(chain, poses, start, cone, joints);
     hand_back(checked, at, letter)

@@ -30,7 +30,7 @@ pub extern "C" fn maztubel_write_job(
     ensures place { λ n. ⌜ now (at .exit) ≡ Lent.placeIn (S.writtenCheck (S.writeOf (now (chain .entry)) (now (poses .entry)) cone (tolerances chord axis) (ListN.length (now (job .entry))))) ⌝ }
     ensures named { λ n. ⌜ now (letter .exit) ≡ Lent.letterIn (S.writtenCheck (S.writeOf (now (chain .entry)) (now (poses .entry)) cone (tolerances chord axis) (ListN.length (now (job .entry))))) ⌝ }
     ensures lent { λ n. ⌜ now (job .exit) ≡ S.jobLeft (now (chain .entry)) (now (poses .entry)) cone (tolerances chord axis) (now (job .entry)) ⌝ }
-    ensures promise { λ n. ⌜ S.WritePromise (readChain 72 (now (chain .entry))) (now (poses .entry)) cone (tolerances chord axis) (ListN.length (now (job .entry))) ⌝ }
+    ensures promise { λ n. ⌜ S.WritePromise (readChain (now (chain .entry))) (now (poses .entry)) cone (tolerances chord axis) (ListN.length (now (job .entry))) ⌝ }
 {
     let written = write_of(chain, poses, cone, chord, axis, job);
     *length = length_in(written);
@@ -47,7 +47,7 @@ fn write_of(
 ) -> Written
     ensures answer { λ r. ⌜ r ≡ S.writeOf (now (chain .entry)) (now (poses .entry)) cone (tolerances chord axis) (ListN.length (now (job .entry))) ⌝ }
     ensures lent { λ r. ⌜ now (job .exit) ≡ S.jobLeft (now (chain .entry)) (now (poses .entry)) cone (tolerances chord axis) (now (job .entry)) ⌝ }
-    ensures promise { λ r. ⌜ S.WritePromise (readChain 72 (now (chain .entry))) (now (poses .entry)) cone (tolerances chord axis) (ListN.length (now (job .entry))) ⌝ }
+    ensures promise { λ r. ⌜ S.WritePromise (readChain (now (chain .entry))) (now (poses .entry)) cone (tolerances chord axis) (ListN.length (now (job .entry))) ⌝ }
 {
     if poses.len() % 6 != 0 {
         return Written::Refused(Refusal {

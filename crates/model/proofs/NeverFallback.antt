@@ -12,7 +12,7 @@ use Rattle.chain.specs.declared.Checked.{Checked}
 use Rattle.chain.specs.declared.Checked.the-variants as Checked
 use Rattle.chain.specs.declared.Joints.{Joints}
 use Rattle.chain.specs.declared.Kinematics.{Kinematics}
-use Rattle.chain.specs.Check.{demand, then, chainCheck, jointsFinite, jointsWithin, pivotsWithin}
+use Rattle.chain.specs.Check.{demand, then, chainCheck, jointsFinite, jointsWithin, chainWithin}
 use Rattle.chain.proofs.Passing.{then-passed, demand-passed}
 use Rattle.chain.proofs.UnitAxes.{ChainDirections, chain-directions}
 use Rattle.chain.proofs.NeverFallback.{TurnableJoints, joints-turn}
@@ -45,13 +45,13 @@ unfolding frameCheck frameSizes
 frame-passed name k bytes j kind h =
     let numbers = demand (jointsFinite j) notFinite 0 in
     let carrier = demand (known kind) carrierUnknown 0 in
-    let sizes = demand (jointsWithin j && pivotsWithin k) tooLarge 0 in
+    let sizes = demand (jointsWithin j && chainWithin k) tooLarge 0 in
     let a = then-passed (fullCheck name k bytes) (then numbers (then carrier sizes)) h in
     let b = then-passed carrier sizes (then-passed numbers (then carrier sizes) (a .1) .1) in
     record {
       chain = full-chain name k bytes (a .0);
       kind-known = demand-passed (known kind) carrierUnknown 0 (b .0);
-      joints = and-eq-true-iff (jointsWithin j) (pivotsWithin k) .0 (demand-passed (jointsWithin j && pivotsWithin k) tooLarge 0 (b .1)) .0;
+      joints = and-eq-true-iff (jointsWithin j) (chainWithin k) .0 (demand-passed (jointsWithin j && chainWithin k) tooLarge 0 (b .1)) .0;
     }
 
 -- What holds where the checks pass. `axes`: the rotaries turn about the unit vectors of the given axes. `turns`: both

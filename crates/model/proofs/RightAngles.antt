@@ -51,9 +51,9 @@ unless-refused Checked.Passed frame h = h
 unless-refused (Checked.Refused r) frame h = tt
 
 -- ---- the chain and the joints: the letter C is the byte 67
-module _ (limits : Travel) (pivot spindle xyz : Vec3) (unused : RotaryJoint) (a1 : Float) where
+module _ (limits : Travel) (pivot spindle xyz : Vec3) (unused : RotaryJoint) (rest a1 : Float) where
   abbrev chain : Kinematics
-  chain = record { count = 1; first = record { letter = 67; carrier = Carrier.Table; limits = limits; axis = Z; pivot = pivot }; second = unused; «spindle_axis» = spindle }
+  chain = record { count = 1; first = record { letter = 67; carrier = Carrier.Table; limits = limits; axis = Z; pivot = pivot; rest = rest }; second = unused; «spindle_axis» = spindle }
 
   abbrev joints : Joints
   joints = record { xyz = xyz; a0 = ninety; a1 = a1 }

@@ -19,7 +19,7 @@ use Rattle.chain.specs.declared.Joints.{Joints}
 use Rattle.chain.specs.declared.Kinematics.{Kinematics}
 use Rattle.chain.specs.declared.Checked.{Checked}
 use Rattle.chain.specs.declared.Checked.the-variants as Checked
-use Rattle.chain.specs.Check.{demand, firstRefusal, jointsFinite, jointsWithin, pivotsWithin}
+use Rattle.chain.specs.Check.{demand, firstRefusal, jointsFinite, jointsWithin, chainWithin}
 use Rattle.chain.specs.Forward.{headPoint, headVector, tablePoint, tableVector}
 use Rattle.chain.specs.Prepared.{prepared}
 use Rattle.model.specs.declared.LinkKind.{LinkKind}
@@ -89,7 +89,7 @@ frameOf p t xyz Unknown = identity
 
 -- ---- the calls
 unfoldable pub frameSizes : Kinematics → Joints → Bool
-frameSizes k j = jointsWithin j && pivotsWithin k
+frameSizes k j = jointsWithin j && chainWithin k
 
 unfoldable pub frameCheck : List ℕ → Kinematics → List ℕ → Joints → LinkKind → Checked
 frameCheck name k bytes j kind =

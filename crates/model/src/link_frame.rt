@@ -13,12 +13,12 @@ use chain::Mount;
 use chain::Prepared;
 use chain::Spin;
 use chain::Turns;
+use chain::chain_within;
 use chain::demand;
 use chain::head_point;
 use chain::head_vector;
 use chain::joints_finite;
 use chain::joints_within;
-use chain::pivots_within;
 use chain::prepare;
 use chain::table_point;
 use chain::table_vector;
@@ -28,7 +28,7 @@ use geometry::Turn;
 use geometry::Vec3;
 
 // Each rotary forth, by its angle.
-fn turns_forth(a0: f64, a1: f64) -> Turns
+pub fn turns_forth(a0: f64, a1: f64) -> Turns
     ensures { λ r. ⌜ r ≡ S.turnsForth a0 a1 ⌝ }
 {
     let first = Turn::of(a0);
@@ -135,7 +135,7 @@ fn rotary_frame(p: Prepared, turns: Turns, xyz: Vec3, index: u8) -> Rigid
     }
 }
 
-fn frame_of(p: Prepared, turns: Turns, xyz: Vec3, kind: LinkKind) -> Rigid
+pub fn frame_of(p: Prepared, turns: Turns, xyz: Vec3, kind: LinkKind) -> Rigid
     ensures { λ r. ⌜ r ≡ S.frameOf p turns xyz kind ⌝ }
 {
     match kind {
@@ -151,7 +151,7 @@ fn frame_sizes(k: Kinematics, j: Joints) -> bool
     ensures { λ r. ⌜ r ≡ S.frameSizes k j ⌝ }
 {
     if joints_within(j) {
-        return pivots_within(k);
+        return chain_within(k);
     }
     false
 }

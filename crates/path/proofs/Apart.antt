@@ -9,6 +9,7 @@ use lib.Dec.{eqb, leb}
 use lib.ListN.{length}
 use lib.Ieee.{Float, binary64, mul, lt}
 use lib.Ieee.Fits.{mul-fits}
+use lib.Ieee.Scale.{finite}
 use Rattle.float.proofs.Commute.{mul-commutes, square-sub-symmetric}
 use Rattle.refusal.specs.declared.Refusal.{Refusal}
 use Rattle.refusal.specs.Numbers as Numbers
@@ -63,16 +64,18 @@ other (Refused r) = not (eqb (r .number) parallelRotaries)
 rotary-other : (j : RotaryJoint) (earlier i : ℕ) → other (rotaryCheck j earlier i) ≡ true
 unfolding rotaryCheck
 rotary-other j earlier i =
-    go (knownLetter (j .letter)) (otherLetter (j .letter) earlier) (allFinite (j .axis)) (hasDirection (j .axis)) (allFinite (j .pivot)) (travelGood (j .limits))
+    go (knownLetter (j .letter)) (otherLetter (j .letter) earlier) (allFinite (j .axis)) (hasDirection (j .axis)) (allFinite (j .pivot)) (travelGood (j .limits)) (finite (j .rest))
   where
-    go : (a b c d e f : Bool) → other (firstRefusal (demand a rotaryLetter i ∷ demand b letterTwice i ∷ demand c chainNotFinite i ∷ demand d rotaryAxisZero i ∷ demand e chainNotFinite i ∷ demand f limitsRefused i ∷ [])) ≡ true
-    go false b c d e f = refl
-    go true false c d e f = refl
-    go true true false d e f = refl
-    go true true true false e f = refl
-    go true true true true false f = refl
-    go true true true true true false = refl
-    go true true true true true true = refl
+    go : (a b c d e f g : Bool)
+        → other (firstRefusal (demand a rotaryLetter i ∷ demand b letterTwice i ∷ demand c chainNotFinite i ∷ demand d rotaryAxisZero i ∷ demand e chainNotFinite i ∷ demand f limitsRefused i ∷ demand g chainNotFinite i ∷ [])) ≡ true
+    go false b c d e f g = refl
+    go true false c d e f g = refl
+    go true true false d e f g = refl
+    go true true true false e f g = refl
+    go true true true true false f g = refl
+    go true true true true true false g = refl
+    go true true true true true true false = refl
+    go true true true true true true true = refl
 
 second-other : (k : Kinematics) → other (secondCheck k) ≡ true
 unfolding secondCheck

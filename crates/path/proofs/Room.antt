@@ -15,11 +15,12 @@ use Rattle.geometry.proofs.UnitSize.{UnitSized}
 use Rattle.chain.specs.declared.Carrier.{Carrier}
 use Rattle.chain.specs.declared.Carrier.the-variants as Carrier
 use Rattle.chain.specs.declared.Checked.the-variants.{Passed}
+use Rattle.chain.specs.declared.RotaryJoint.{RotaryJoint}
 use Rattle.chain.specs.declared.Kinematics.{Kinematics}
 use Rattle.chain.specs.declared.Mount.{Mount}
 use Rattle.chain.specs.declared.Mount.the-variants.{Table, Head, Absent}
 use Rattle.chain.specs.declared.Spin.{Spin}
-use Rattle.chain.specs.Check.{demand, chainCheck, within, allWithin, pivotsWithin, jointsWithin, longest, farthest, mostTurned}
+use Rattle.chain.specs.Check.{demand, chainCheck, within, allWithin, rotaryWithin, chainWithin, jointsWithin, longest, farthest, mostTurned}
 use Rattle.chain.specs.Prepared.{mountOf, spinOf, secondSpin, prepared}
 use Rattle.chain.proofs.NeverFallback.{within-up-to}
 use Rattle.chain.proofs.Passing.{then-passed, demand-passed, SixPassed, six-passed}
@@ -67,24 +68,28 @@ spin-bounded Table axis pivot A w = both-within axis pivot A w
 spin-bounded Head axis pivot A w = both-within axis pivot A w
 spin-bounded Absent axis pivot A w = refl
 
+pivot-within : (j : RotaryJoint) → rotaryWithin j ≡ true → allWithin (j .pivot) longest ≡ true
+unfolding rotaryWithin
+pivot-within j w = and-eq-true-iff (allWithin (j .pivot) longest) (within (j .rest) mostTurned) .0 w .0
+
 -- where there is no second rotary its pivot is not asked
-second-bounded : (k : Kinematics) → SecondUnit (secondSpin k .mount) (secondSpin k .axis) → cond (eqb (k .count) 2) (allWithin (k .second .pivot) longest) true ≡ true → boundedSpin (secondSpin k .mount) (secondSpin k .axis) (secondSpin k .pivot) ≡ true
+second-bounded : (k : Kinematics) → SecondUnit (secondSpin k .mount) (secondSpin k .axis) → cond (eqb (k .count) 2) (rotaryWithin (k .second)) true ≡ true → boundedSpin (secondSpin k .mount) (secondSpin k .axis) (secondSpin k .pivot) ≡ true
 unfolding secondSpin spinOf
 second-bounded k A w = go (eqb (k .count) 2) A w
   where
     absent : Spin
     absent = record { mount = Absent; axis = k .second .axis; pivot = k .second .pivot }
 
-    go : (two : Bool) → SecondUnit (cond two (spinOf (k .second)) absent .mount) (cond two (spinOf (k .second)) absent .axis) → cond two (allWithin (k .second .pivot) longest) true ≡ true
+    go : (two : Bool) → SecondUnit (cond two (spinOf (k .second)) absent .mount) (cond two (spinOf (k .second)) absent .axis) → cond two (rotaryWithin (k .second)) true ≡ true
         → boundedSpin (cond two (spinOf (k .second)) absent .mount) (cond two (spinOf (k .second)) absent .axis) (cond two (spinOf (k .second)) absent .pivot) ≡ true
-    go true A w = spin-bounded (spinOf (k .second) .mount) (spinOf (k .second) .axis) (spinOf (k .second) .pivot) A w
+    go true A w = spin-bounded (spinOf (k .second) .mount) (spinOf (k .second) .axis) (spinOf (k .second) .pivot) A (pivot-within (k .second) w)
     go false A w = refl
 
-units-bounded : (k : Kinematics) → UnitChain (prepared k) → pivotsWithin k ≡ true → bounded (prepared k) ≡ true
-unfolding bounded prepared spinOf pivotsWithin
+units-bounded : (k : Kinematics) → UnitChain (prepared k) → chainWithin k ≡ true → bounded (prepared k) ≡ true
+unfolding bounded prepared spinOf chainWithin
 units-bounded k C w =
-    let p = and-eq-true-iff (allWithin (k .first .pivot) longest) (cond (eqb (k .count) 2) (allWithin (k .second .pivot) longest) true) .0 w in
-    rw (first-bounded (k .first .carrier) _ (k .first .pivot) (C .first) (p .0), second-bounded k (C .second) (p .1), vec-within _ (C .spindle .small))
+    let p = and-eq-true-iff (rotaryWithin (k .first)) (cond (eqb (k .count) 2) (rotaryWithin (k .second)) true) .0 w in
+    rw (first-bounded (k .first .carrier) _ (k .first .pivot) (C .first) (pivot-within (k .first) (p .0)), second-bounded k (C .second) (p .1), vec-within _ (C .spindle .small))
 
 -- ---- what the list of checks says
 module _ (k : Kinematics) (start : Start) (cone : Float) (numbers room : ℕ) (passed : solveCheck k start cone numbers room ≡ Passed) where
@@ -99,11 +104,11 @@ module _ (k : Kinematics) (start : Start) (cone : Float) (numbers room : ℕ) (p
   pub chain-passed : chainCheck k ≡ Passed
   chain-passed = chain-of-path k (parts .third)
 
-  sizes : (pivotsWithin k ≡ true) × (startWithin start ≡ true)
+  sizes : (chainWithin k ≡ true) × (startWithin start ≡ true)
   unfolding pathSizes
   sizes =
-      let r = and-eq-true-iff (pivotsWithin k && startWithin start) (leb (numbers / 6) 100000) .0 (demand-passed (pathSizes k start (numbers / 6)) Numbers.tooLarge 0 (parts .fifth)) in
-      and-eq-true-iff (pivotsWithin k) (startWithin start) .0 (r .0)
+      let r = and-eq-true-iff (chainWithin k && startWithin start) (leb (numbers / 6) 100000) .0 (demand-passed (pathSizes k start (numbers / 6)) Numbers.tooLarge 0 (parts .fifth)) in
+      and-eq-true-iff (chainWithin k) (startWithin start) .0 (r .0)
 
   pub start-within : StartFits start → PairUpTo 36000 (startAngles start)
   start-within f = start-up-to start f (sizes .1)

@@ -18,7 +18,7 @@ use Rattle.chain.specs.declared.Checked.the-variants as Checked
 use Rattle.chain.specs.declared.Joints.{Joints}
 use Rattle.chain.specs.declared.Kinematics.{Kinematics}
 use Rattle.chain.specs.declared.ToolPose.{ToolPose}
-use Rattle.chain.specs.Check.{demand, firstRefusal, chainCheck, pivotsWithin, jointsFinite, jointsWithin}
+use Rattle.chain.specs.Check.{demand, firstRefusal, chainCheck, chainWithin, jointsFinite, jointsWithin}
 use Rattle.chain.specs.Prepared.{unitAxis}
 use Rattle.inverse.specs.Subproblem.{shortest}
 use Rattle.inverse.specs.declared.Angles.{Angles}
@@ -101,7 +101,7 @@ unfoldable pub pathChain : Kinematics → Checked
 pathChain k = firstRefusal (chainCheck k ∷ demand (not (parallel k)) Numbers.parallelRotaries 0 ∷ [])
 
 unfoldable pub pathSizes : Kinematics → Start → ℕ → Bool
-pathSizes k start count = pivotsWithin k && startWithin start && leb count 100000
+pathSizes k start count = chainWithin k && startWithin start && leb count 100000
 
 unfoldable pub solveCheck : Kinematics → Start → Float → ℕ → ℕ → Checked
 solveCheck k start cone numbers room =

@@ -141,7 +141,7 @@ pub fn whole_records(numbers: usize, room: usize) -> bool
 fn path_sizes(k: Kinematics, start: Start, count: usize) -> bool
     ensures { λ r. ⌜ r ≡ S.pathSizes k start count ⌝ }
 {
-    if chain::pivots_within(k) {
+    if chain::chain_within(k) {
         if start_within(start) {
             return count <= 100000;
         }

@@ -15,7 +15,7 @@ use Rattle.refusal.specs.declared.Refusal.{Refusal}
 use Rattle.chain.specs.declared.Checked.the-variants as Checked
 use Rattle.chain.specs.declared.Joints.{Joints}
 use Rattle.chain.specs.declared.Kinematics.{Kinematics}
-use Rattle.chain.specs.Check.{chainCheck, pivotsWithin, jointsFinite, jointsWithin}
+use Rattle.chain.specs.Check.{chainCheck, chainWithin, jointsFinite, jointsWithin}
 use Rattle.chain.specs.Prepared.{prepared}
 use Rattle.chain.proofs.Passing.{then-passed}
 use Rattle.chain.proofs.ReadyLaws.{both}
@@ -103,17 +103,17 @@ module _ (k : Kinematics) (poses : List Float) (start : Start) (cone : Float) (t
       unfolding pathChain
       chain-passed = then-passed (chainCheck k) _ (parts .checks .chain-is) .0
 
-      pivots-within : pivotsWithin k ≡ true
+      chain-within : chainWithin k ≡ true
       unfolding divisionSizes
-      pivots-within =
+      chain-within =
           let sets = flat jointNumbers s in
-          let a = both (pivotsWithin k && all tipWithin (posesIn poses) && all jointsWithin (jointSetsIn sets)) (leb (length poses / 6) 100000) (parts .checks .sizes-is) in
-          let b = both (pivotsWithin k && all tipWithin (posesIn poses)) (all jointsWithin (jointSetsIn sets)) (a .0) in
-          both (pivotsWithin k) (all tipWithin (posesIn poses)) (b .0) .0
+          let a = both (chainWithin k && all tipWithin (posesIn poses) && all jointsWithin (jointSetsIn sets)) (leb (length poses / 6) 100000) (parts .checks .sizes-is) in
+          let b = both (chainWithin k && all tipWithin (posesIn poses)) (all jointsWithin (jointSetsIn sets)) (a .0) in
+          both (chainWithin k) (all tipWithin (posesIn poses)) (b .0) .0
 
       answered : (rotary : ℕ) → (t : ℕ) × (cableNumber k (flat jointNumbers (jointsOf l)) rotary ≡ Cable.Turns t)
       answered rotary =
-          cable-answered k (flat jointNumbers (jointsOf l)) (whole-sets (jointsOf l)) chain-passed pivots-within
+          cable-answered k (flat jointNumbers (jointsOf l)) (whole-sets (jointsOf l)) chain-passed chain-within
           (rw (sets-back (jointsOf l)) (all-joints jointsFinite l (λ i m. sizes-finite (i .joints) (there .sizes i m))))
           (rw (sets-back (jointsOf l)) (all-joints jointsWithin l (there .sizes))) rotary
 
@@ -129,13 +129,13 @@ abbrev isJob : JobRead → Bool
 isJob (JobRead.Job j) = true
 isJob (JobRead.Refused r) = false
 
-text-told : (bytes : List ℕ) (j : Job) (n : ℕ) (l : List Item) (a b : ℕ) → readJob 72 bytes ≡ JobRead.Job j → pathOf bytes j ≡ Halved (Done n l)
+text-told : (bytes : List ℕ) (j : Job) (n : ℕ) (l : List Item) (a b : ℕ) → readJob bytes ≡ JobRead.Job j → pathOf bytes j ≡ Halved (Done n l)
     → cableNumber (j .chain) (flat jointNumbers (jointsOf l)) 0 ≡ Cable.Turns a → cableNumber (j .chain) (flat jointNumbers (jointsOf l)) 1 ≡ Cable.Turns b
     → post bytes ≡ textOf (Ended.Divided (record { inserted = n; first = a; second = b })) (jointsOf l)
 unfolding post pathText wound
 text-told bytes j n l a b w h u v = rw (w, h, u, v)
 
-pub job-told : (bytes : List ℕ) (j : Job) → readJob 72 bytes ≡ JobRead.Job j → Cabled (j .chain) (pathOf bytes j) → NeverRefused bytes
+pub job-told : (bytes : List ℕ) (j : Job) → readJob bytes ≡ JobRead.Job j → Cabled (j .chain) (pathOf bytes j) → NeverRefused bytes
 job-told bytes j e c = record {
   told = λ i n l w h.
       let d = subst (λ (z : Job). Cabled (z .chain) (pathOf bytes z)) (ap (jobIn j) (sym e ∙ w)) c in
@@ -144,5 +144,5 @@ job-told bytes j e c = record {
       (first .0, (second .0, text-told bytes i n l (first .0) (second .0) w h (first .1) (second .1)));
 }
 
-pub no-job-told : (bytes : List ℕ) (r : Refusal) → readJob 72 bytes ≡ JobRead.Refused r → NeverRefused bytes
+pub no-job-told : (bytes : List ℕ) (r : Refusal) → readJob bytes ≡ JobRead.Refused r → NeverRefused bytes
 no-job-told bytes r e = record { told = λ i n l w h. absurd (false≢true (ap isJob (sym e ∙ w))) }

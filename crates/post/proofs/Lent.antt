@@ -11,14 +11,12 @@ use lib.Seq.{take-all}
 use Rattle.lists.specs.Padding.{padded}
 use Rattle.lists.proofs.Padding.{take-padded}
 use Rattle.float.specs.Helpers.{nought}
-use Rattle.chain.specs.ChainBytes.{chainLength}
-use Rattle.chain.proofs.Bytes.{at-least-one}
 use Rattle.path.specs.declared.Start.the-variants.{AtZero}
 use Rattle.divide.specs.declared.Division.{Division}
 use Rattle.divide.specs.Subdividing.{divisionIn, jointsLeft, solveAndDivide}
 use Rattle.job.specs.declared.Job.{Job}
 use Rattle.job.specs.JobPoses.{posesOf, room, posesCheck, jobPoses}
-use Rattle.job.proofs.JobWithin.{Within, within, parts, rotaries}
+use Rattle.job.proofs.JobWithin.{Within, within}
 use Rattle.job.proofs.Copying.{length-numbers}
 use Rattle.post.specs.Posting.{pathOf, Cabled}
 use Rattle.post.specs.Steps.{IsJob}
@@ -28,23 +26,20 @@ module _ (bytes : List ℕ) (j : Job) (is : IsJob bytes j) where
   pub few-poses : j .poses ≤ 1362
   few-poses = by-place (w .apart-from)
     where
-      w : Within 72 bytes j
-      w = within 72 bytes j (is .read)
+      w : Within bytes j
+      w = within bytes j (is .read)
 
-      some : 1 ≤ j .chain .count
-      some = rw (rotaries 72 bytes j (is .read)) (at-least-one _ (parts 72 bytes j (is .read) .counted))
-
-      by-place : (j .poses ≡ 0) ⊎ ((j .«poses_at» + 48 * j .poses ≤ j .«chain_at») ⊎ (j .«chain_at» + chainLength 72 (j .chain .count) ≤ j .«poses_at»)) → j .poses ≤ 1362
+      by-place : (j .poses ≡ 0) ⊎ ((j .«poses_at» + 48 * j .poses ≤ j .«chain_at») ⊎ (j .«chain_at» + j .«chain_length» ≤ j .«poses_at»)) → j .poses ≤ 1362
       by-place (inl e) = omega (arith, e)
       by-place (inr (inl e)) =
           let a = w .chain-in in
           let b = w .most in
-          let c = some in
+          let c = w .chain-least in
           omega (arith, a, b, c, e)
       by-place (inr (inr e)) =
           let a = w .poses-in in
           let b = w .most in
-          let c = some in
+          let c = w .chain-least in
           omega (arith, a, b, c, e)
 
   pub length-poses : length (posesOf bytes j) ≡ 6 * j .poses

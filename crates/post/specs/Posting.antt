@@ -70,7 +70,7 @@ postRead bytes (JobRead.Job j) = pathText (j .chain) (pathOf bytes j)
 postRead bytes (JobRead.Refused r) = textOf (Ended.Refused r) []
 
 unfoldable pub post : List ℕ → List ℕ
-post bytes = postRead bytes (readJob 72 bytes)
+post bytes = postRead bytes (readJob bytes)
 
 -- ---- a path that division served is never refused
 -- its cable numbers are answered, of every rotary
@@ -80,6 +80,6 @@ pub record Cabled (k : Kinematics) (answer : DivisionAnswer) : Type 0 where
 
 -- so what is written is the path, with the count of division and both cable numbers
 pub record NeverRefused (bytes : List ℕ) : Type 0 where
-  pub told : (j : Job) (n : ℕ) (l : List Item) → readJob 72 bytes ≡ JobRead.Job j → pathOf bytes j ≡ Halved (Done n l)
+  pub told : (j : Job) (n : ℕ) (l : List Item) → readJob bytes ≡ JobRead.Job j → pathOf bytes j ≡ Halved (Done n l)
       → (first : ℕ) × ((second : ℕ)
       × (post bytes ≡ textOf (Ended.Divided (record { inserted = n; first = first; second = second })) (map (λ (i : Item). i .joints) l)))

@@ -31,7 +31,7 @@ pub record Rooms (poses divided joints text : ℕ) : Type 0 where
   pub for-text : 65536 ≤ text
 
 pub record IsJob (bytes : List ℕ) (j : Job) : Type 0 where
-  pub read : readJob 72 bytes ≡ JobRead.Job j
+  pub read : readJob bytes ≡ JobRead.Job j
 
 -- how many joint sets a path has
 abbrev pub pathLength : ℕ → Division → ℕ

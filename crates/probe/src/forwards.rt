@@ -12,7 +12,7 @@ use geometry::Vec3;
 // 0.0 where the chain's bytes are refused.
 #[no_mangle]
 pub extern "C" fn probe_forwards(chain: &[u8], joints: &[f64], tool_length: f64) -> f64
-    ensures { λ r. ⌜ r ≡ S.sumsRead (readChain 72 (now (chain .entry))) (now (joints .entry)) «tool_length» ⌝ }
+    ensures { λ r. ⌜ r ≡ S.sumsRead (readChain (now (chain .entry))) (now (joints .entry)) «tool_length» ⌝ }
 {
     let read = chain::read_chain(chain);
     let ChainRead::Chain(k) = read else {

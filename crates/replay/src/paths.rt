@@ -87,6 +87,7 @@ fn divided(inserted: u64, poses: &[f64], joints: &[f64]) {
 
 pub fn read_job(case: &[u8]) {
     let mut chain_at: u64 = 7;
+    let mut chain_length: u64 = 7;
     let mut poses_at: u64 = 7;
     let mut count: u64 = 7;
     let mut cone: f64 = 7.25;
@@ -96,6 +97,7 @@ pub fn read_job(case: &[u8]) {
     let number = maztubel::maztubel_read_job(
         chain_or_job(case),
         &mut chain_at,
+        &mut chain_length,
         &mut poses_at,
         &mut count,
         &mut cone,
@@ -105,6 +107,7 @@ pub fn read_job(case: &[u8]) {
     );
     told::begin(b"read_job", number, at, 0);
     told::count(chain_at);
+    told::count(chain_length);
     told::count(poses_at);
     told::count(count);
     told::numbers(&[cone, chord, axis]);

@@ -16,16 +16,17 @@ use Rattle.divide.specs.Checking.{FitUpTo}
 use Rattle.job.specs.Spelling.{written}
 use Rattle.writer.specs.declared.Written.{Written}
 use Rattle.writer.specs.declared.Written.the-variants as Written
-use Rattle.writer.specs.Writing.{chainBytes, jobBytes, jobOf}
-use Rattle.writer.specs.Checking.{jobLength, writeCheck, writtenJob, writtenAnswer, ReadBack, Rewritten}
+use Rattle.writer.specs.Writing.{recordOf, chainBytes, jobBytes, jobOf}
+use Rattle.writer.specs.Checking.{jobLength, lengthOf, writeCheck, writtenJob, writtenAnswer, ReadBack, Rewritten}
 use Rattle.writer.proofs.Fitting.{ChainFits}
+use Rattle.writer.proofs.Parts.{record-width}
 use Rattle.writer.proofs.Reading.{chain-length, job-length, read-back, poses-back}
 use Rattle.writer.proofs.Passing.{accepted}
 use Rattle.writer.proofs.Rewriting.{same-file}
 use Rattle.writer.proofs.Texts.{front}
 
 module _ (k : Kinematics) (poses : List Float) (cone : Float) (tol : Tolerances) where
-  pub may-put : (room : ℕ) → writeCheck k poses cone tol room ≡ Passed → (oneOrTwo (k .count) ≡ true) × (jobLength (k .count) (length poses) ≤ room)
+  pub may-put : (room : ℕ) → writeCheck k poses cone tol room ≡ Passed → (oneOrTwo (k .count) ≡ true) × (lengthOf k poses ≤ room)
   may-put room e = let a = accepted k poses cone tol room e in (a .lettered .counted, a .fits)
 
   pub refused-all : (out : List ℕ) (r : Refusal) → writeCheck k poses cone tol (length out) ≡ Refused r
@@ -33,11 +34,11 @@ module _ (k : Kinematics) (poses : List Float) (cone : Float) (tol : Tolerances)
   unfolding writtenAnswer writtenJob
   refused-all out r e = rw e (refl, refl)
 
-  long : (room : ℕ) → writeCheck k poses cone tol room ≡ Passed → length (jobBytes k poses cone tol) ≡ jobLength (k .count) (length poses)
+  long : (room : ℕ) → writeCheck k poses cone tol room ≡ Passed → length (jobBytes k poses cone tol) ≡ lengthOf k poses
   unfolding jobLength
   long room e = let a = accepted k poses cone tol room e in job-length k poses cone tol (a .lettered .counted) (a .whole) (a .short)
 
-  pub written-all : (out out' : List ℕ) (n : ℕ) → writeCheck k poses cone tol (length out) ≡ Passed → (n ≡ jobLength (k .count) (length poses)) × (out' ≡ written out 0 (jobBytes k poses cone tol))
+  pub written-all : (out out' : List ℕ) (n : ℕ) → writeCheck k poses cone tol (length out) ≡ Passed → (n ≡ lengthOf k poses) × (out' ≡ written out 0 (jobBytes k poses cone tol))
       → (Written.Bytes n ≡ writtenAnswer k poses cone tol (length out)) × (out' ≡ writtenJob k poses cone tol out)
   unfolding writtenAnswer writtenJob
   written-all out out' n e p =
@@ -61,6 +62,6 @@ module _ (k : Kinematics) (poses : List Float) (cone : Float) (tol : Tolerances)
     rewrites = λ e. let r = reads e in same-file k poses cone tol room e (r .0) (r .1)
 
   -- the poses start where the chain ends, also where there are none
-  pub poses-behind-chain : oneOrTwo (k .count) ≡ true → jobOf k poses cone tol .«poses_at» ≡ length (chainBytes k)
+  pub poses-behind-chain : oneOrTwo (k .count) ≡ true → jobOf k poses cone tol .«poses_at» ≡ length (chainBytes (recordOf k) k)
   unfolding jobOf
-  poses-behind-chain h = sym (chain-length k h)
+  poses-behind-chain h = sym (chain-length (recordOf k) (record-width k) k h)

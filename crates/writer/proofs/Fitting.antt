@@ -25,6 +25,7 @@ pub record RotaryFits (j : RotaryJoint) : Type 0 where
   pub axis : FitVec (j .axis)
   pub pivot : FitVec (j .pivot)
   pub limits : TravelFits (j .limits)
+  pub rest : T (fits binary64 (j .rest))
 
 pub record ChainFits (k : Kinematics) : Type 0 where
   pub first : RotaryFits (k .first)
@@ -43,6 +44,7 @@ rotary-fits j vs g = record {
   axis = vector-fits (j .axis) _ (g .1 .1 .1 .1 .1 .0);
   pivot = vector-fits (j .pivot) _ (g .1 .1 .1 .1 .1 .1 .0);
   limits = travel-fits (j .limits) _ (g .1 .1 .1 .1 .0);
+  rest = let r = g .1 .1 .1 .1 .1 .1 .1 .0 in search (needs, r);
 }
 
 pub chain-fits : (k : Kinematics) (vs : List Val) → Is ChainRow.the-row k vs → ChainFits k

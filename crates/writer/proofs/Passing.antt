@@ -14,12 +14,12 @@ use Rattle.refusal.specs.Numbers as Numbers
 use Rattle.chain.specs.declared.Checked.the-variants.{Passed}
 use Rattle.chain.specs.declared.RotaryJoint.{RotaryJoint}
 use Rattle.chain.specs.declared.Kinematics.{Kinematics}
-use Rattle.chain.specs.Check.{demand, oneOrTwo, knownLetter, rotaryCheck, secondCheck, chainCheck, pivotsWithin}
+use Rattle.chain.specs.Check.{demand, oneOrTwo, knownLetter, rotaryCheck, secondCheck, chainCheck, chainWithin}
 use Rattle.chain.proofs.Passing.{then-passed, demand-passed}
 use Rattle.path.specs.Solving.{coneGood, posesIn}
 use Rattle.middle.specs.declared.Tolerances.{Tolerances}
 use Rattle.divide.specs.Checking.{toleranceGood, tipWithin}
-use Rattle.writer.specs.Checking.{jobLength, writeSizes, inOrder, writeCheck}
+use Rattle.writer.specs.Checking.{lengthOf, writeSizes, inOrder, writeCheck}
 
 -- ---- the list
 pub record Listed (k : Kinematics) (a f s r : Bool) : Type 0 where
@@ -77,17 +77,17 @@ letters k e =
 pub record Accepted (k : Kinematics) (poses : List Float) (room : ℕ) : Type 0 where
   pub whole : length poses ≡ 6 * (length poses / 6)
   pub lettered : Lettered k
-  pub short : jobLength (k .count) (length poses) ≤ 65536
-  pub fits : jobLength (k .count) (length poses) ≤ room
+  pub short : lengthOf k poses ≤ 65536
+  pub fits : lengthOf k poses ≤ room
 
 pub accepted : (k : Kinematics) (poses : List Float) (cone : Float) (tol : Tolerances) (room : ℕ) → writeCheck k poses cone tol room ≡ Passed → Accepted k poses room
 unfolding writeCheck writeSizes
 accepted k poses cone tol room e =
     let l =
     order-passed k (eqb (length poses % 6) 0) (coneGood cone) (toleranceGood (tol .chord)) (toleranceGood (tol .axis)) (all finite poses)
-    (pivotsWithin k && all tipWithin (posesIn poses) && leb (jobLength (k .count) (length poses)) 65536) (leb (jobLength (k .count) (length poses)) room) e
+    (chainWithin k && all tipWithin (posesIn poses) && leb (lengthOf k poses) 65536) (leb (lengthOf k poses) room) e
     in
-    let s = and-eq-true-iff (pivotsWithin k && all tipWithin (posesIn poses)) (leb (jobLength (k .count) (length poses)) 65536) .0 (l .sizes) in
+    let s = and-eq-true-iff (chainWithin k && all tipWithin (posesIn poses)) (leb (lengthOf k poses) 65536) .0 (l .sizes) in
     let r = eqb-true (length poses % 6) 0 (l .whole) in
     record {
       whole = omega (arith, r);

@@ -8,12 +8,13 @@ use mathlib.Core.List.{List, [], _∷_, _++_}
 use lib.Dec.{T}
 use lib.ListN.{length, replicate, length-append, List·getD-append}
 use lib.Seq.{getD-append-add}
-use lib.Ieee.{Float, nan, inf, fin, binary64, fits, isNan, ofBits, toBits}
+use lib.Ieee.{Float, nan, binary64, fits, ofBits, toBits}
 use lib.Ieee as Ieee
 use lib.Ieee.Bits.{ofBits-toBits, toBits-lt}
 use Rattle.chain.specs.declared.Checked.the-variants.{Passed}
 use Rattle.chain.specs.Bytes.{byteAt, littleEndian, numberAt, vectorAt}
 use Rattle.chain.specs.ChainBytes.{zeros}
+use Rattle.chain.proofs.Bytes.{the-nan}
 use Rattle.geometry.specs.declared.Vec3.{Vec3}
 use Rattle.float.proofs.Choices.{nan-of}
 use Rattle.job.specs.Spelling.{bitsOf}
@@ -72,12 +73,6 @@ whole-read (suc n) x bytes at h s =
 bits-of-nan : ofBits binary64 0x7ff8_0000_0000_0000 ≡ nan
 unfolding ofBits
 bits-of-nan = refl
-
-the-nan : (x : Float) → isNan x ≡ true → x ≡ nan
-unfolding isNan
-the-nan nan e = refl
-the-nan (inf s) e = cc
-the-nan (fin s m d) e = cc
 
 pub bits-there : (x : Float) → T (fits binary64 x) → ofBits binary64 (bitsOf x) ≡ x
 unfolding bitsOf

@@ -5,6 +5,7 @@ use native.Mathlib.Numerals.{add-one}
 use native.Mathlib.Omega.{arith}
 use mathlib.Core.Path.{_≡_, refl, sym, ap, _∙_}
 use mathlib.Core.Bool.{true, false}
+use mathlib.Core.Logic.{inl, inr}
 use mathlib.Core.List.{List, [], _∷_, _++_}
 use lib.Dec.{eqb}
 use lib.ListN.{length, getD, drop, set, length-set, length-append, drop-of-length-le}
@@ -15,16 +16,16 @@ use Rattle.geometry.specs.declared.Vec3.{Vec3}
 use Rattle.chain.specs.declared.RotaryJoint.{RotaryJoint}
 use Rattle.chain.specs.declared.Kinematics.{Kinematics}
 use Rattle.chain.specs.Check.{oneOrTwo}
-use Rattle.chain.specs.ChainBytes.{chainLength, axisField, pivotField, minField, maxField}
+use Rattle.chain.specs.ChainBytes.{chainLength, axisField, pivotField, minField, maxField, restField}
 use Rattle.middle.specs.declared.Tolerances.{Tolerances}
 use Rattle.job.specs.Spelling.{written}
 use Rattle.job.specs.JobBytes as Trailer
 use Rattle.job.proofs.Written.{written-append, length-put}
-use Rattle.writer.specs.Writing.{bytesOf, numberBytes, vectorBytes, headBytes, carrierByte, limitsByte, lower, upper, rotaryBytes, secondBytes, chainBytes, posesBytes, trailerBytes, jobBytes}
-use Rattle.writer.specs.Checking.{jobLength}
+use Rattle.writer.specs.Writing.{bytesOf, numberBytes, vectorBytes, headBytes, carrierByte, limitsByte, lower, upper, restBytes, rotaryBytes, wordOf, recordOf, Width, secondBytes, chainBytes, posesBytes, trailerBytes, jobBytes}
+use Rattle.writer.specs.Checking.{jobLength, lengthOf}
 use Rattle.writer.proofs.Standing.{length-bytes, length-number, length-vector}
-use Rattle.writer.proofs.Parts.{travelBytes, rotary-parts, trailer-parts}
-use Rattle.writer.proofs.Reading.{rotary-length, chain-length, poses-length}
+use Rattle.writer.proofs.Parts.{travelBytes, rotary-parts, record-width, trailer-parts}
+use Rattle.writer.proofs.Reading.{travel-length, rotary-length, chain-length, poses-length}
 
 -- ---- two texts
 pub joined : (o o1 o2 t u : List ℕ) (at n to : ℕ) → length t ≡ n → at + n ≡ to → o1 ≡ written o at t → o2 ≡ written o1 to u → o2 ≡ written o at (t ++ u)
@@ -99,61 +100,77 @@ put-head a b c at o o1 p =
     let f : at + 2 + 1 ≡ at + 3 = omega arith in
     p ∙ rw (e, f)
 
-pub put-rotary : (j : RotaryJoint) (at b c : ℕ) (x y : Float) (o o1 o2 o3 o4 o5 : List ℕ) → b ≡ carrierByte (j .carrier) → c ≡ limitsByte (j .limits) → x ≡ lower (j .limits) → y ≡ upper (j .limits)
+pub wide : (w : ℕ) → Width w → 72 ≤ w
+wide w (inl e) = omega (arith, e)
+wide w (inr e) = omega (arith, e)
+
+-- a rest angle in a record that has one, and in one that has not
+pub rest-is : (w : ℕ) (rest : Float) → w ≡ 80 → restBytes w rest ≡ numberBytes rest
+unfolding restBytes
+rest-is w rest e = rw e
+
+pub rest-not : (w : ℕ) (rest : Float) (at : ℕ) (o : List ℕ) → eqb w 80 ≡ false → o ≡ written o at (restBytes w rest)
+unfolding restBytes written
+rest-not w rest at o e = rw e
+
+pub put-rotary : (w : ℕ) → Width w → (j : RotaryJoint) (at b c : ℕ) (x y : Float) (o o1 o2 o3 o4 o5 o6 : List ℕ) → b ≡ carrierByte (j .carrier) → c ≡ limitsByte (j .limits) → x ≡ lower (j .limits) → y ≡ upper (j .limits)
     → o1 ≡ written o at (headBytes (j .letter) b c) → o2 ≡ written o1 (axisField at) (vectorBytes (j .axis)) → o3 ≡ written o2 (pivotField at) (vectorBytes (j .pivot))
-    → o4 ≡ written o3 (minField at) (numberBytes x) → o5 ≡ written o4 (maxField at) (numberBytes y) → o5 ≡ written o at (rotaryBytes j)
-put-rotary j at b c x y o o1 o2 o3 o4 o5 eb ec ex ey p q r s t =
+    → o4 ≡ written o3 (minField at) (numberBytes x) → o5 ≡ written o4 (maxField at) (numberBytes y) → o6 ≡ written o5 (restField at) (restBytes w (j .rest)) → o6 ≡ written o at (rotaryBytes w j)
+put-rotary w width j at b c x y o o1 o2 o3 o4 o5 o6 eb ec ex ey p q r s t u =
     let head = rw (eb, ec) at p in
     let least = rw ex at s in
     let most = rw ey at t in
-    joined o o1 o5 (headBytes (j .letter) (carrierByte (j .carrier)) (limitsByte (j .limits))) (vectorBytes (j .axis) ++ (vectorBytes (j .pivot) ++ travelBytes (j .limits))) at 8 (axisField at) refl refl head
-    (joined o1 o2 o5 (vectorBytes (j .axis)) (vectorBytes (j .pivot) ++ travelBytes (j .limits)) (axisField at) 24 (pivotField at) (length-vector (j .axis)) (omega arith) q
-    (joined o2 o3 o5 (vectorBytes (j .pivot)) (travelBytes (j .limits)) (pivotField at) 24 (minField at) (length-vector (j .pivot)) (omega arith) r
-    (joined o3 o4 o5 (numberBytes (lower (j .limits))) (numberBytes (upper (j .limits))) (minField at) 8 (maxField at) (length-number (lower (j .limits))) (omega arith) least most)))
-    ∙ ap (written o at) (sym (rotary-parts j))
+    let travel = joined o3 o4 o5 (numberBytes (lower (j .limits))) (numberBytes (upper (j .limits))) (minField at) 8 (maxField at) (length-number (lower (j .limits))) (omega arith) least most in
+    let from-limits = travelBytes (j .limits) ++ restBytes w (j .rest) in
+    joined o o1 o6 (headBytes (j .letter) (carrierByte (j .carrier)) (limitsByte (j .limits))) (vectorBytes (j .axis) ++ (vectorBytes (j .pivot) ++ from-limits)) at 8 (axisField at) refl refl head
+    (joined o1 o2 o6 (vectorBytes (j .axis)) (vectorBytes (j .pivot) ++ from-limits) (axisField at) 24 (pivotField at) (length-vector (j .axis)) (omega arith) q
+    (joined o2 o3 o6 (vectorBytes (j .pivot)) from-limits (pivotField at) 24 (minField at) (length-vector (j .pivot)) (omega arith) r
+    (joined o3 o5 o6 (travelBytes (j .limits)) (restBytes w (j .rest)) (minField at) 16 (restField at) (travel-length (j .limits)) (omega arith) travel u)))
+    ∙ ap (written o at) (sym (rotary-parts w width j))
 
 -- ---- the chain
-pub second-there : (k : Kinematics) → eqb (k .count) 2 ≡ true → secondBytes k ≡ rotaryBytes (k .second)
-unfolding secondBytes
-second-there k e = rw e
+module _ (w : ℕ) (width : Width w) (k : Kinematics) where
+  second-there : eqb (k .count) 2 ≡ true → secondBytes w k ≡ rotaryBytes w (k .second)
+  unfolding secondBytes
+  second-there e = rw e
 
-pub second-none : (k : Kinematics) → eqb (k .count) 2 ≡ false → secondBytes k ≡ []
-unfolding secondBytes
-second-none k e = rw e
+  second-none : eqb (k .count) 2 ≡ false → secondBytes w k ≡ []
+  unfolding secondBytes
+  second-none e = rw e
 
-pub second-put : (k : Kinematics) (at : ℕ) (o o1 : List ℕ) → eqb (k .count) 2 ≡ true → o1 ≡ written o at (rotaryBytes (k .second)) → (at + 72 ≡ at + length (secondBytes k)) × (o1 ≡ written o at (secondBytes k))
-second-put k at o o1 e p = rw (second-there k e) (ap (λ (n : ℕ). at + n) (sym (rotary-length (k .second))), p)
+  pub second-put : (at : ℕ) (o o1 : List ℕ) → eqb (k .count) 2 ≡ true → o1 ≡ written o at (rotaryBytes w (k .second)) → (at + w ≡ at + length (secondBytes w k)) × (o1 ≡ written o at (secondBytes w k))
+  second-put at o o1 e p = rw (second-there e) (ap (λ (n : ℕ). at + n) (sym (rotary-length w width (k .second))), p)
 
-pub second-not : (k : Kinematics) (at : ℕ) (o : List ℕ) → eqb (k .count) 2 ≡ false → (at ≡ at + length (secondBytes k)) × (o ≡ written o at (secondBytes k))
-unfolding written
-second-not k at o e = rw (second-none k e) (sym (add-zero at), refl)
+  pub second-not : (at : ℕ) (o : List ℕ) → eqb (k .count) 2 ≡ false → (at ≡ at + length (secondBytes w k)) × (o ≡ written o at (secondBytes w k))
+  unfolding written
+  second-not at o e = rw (second-none e) (sym (add-zero at), refl)
 
-pub second-room : (k : Kinematics) → eqb (k .count) 2 ≡ true → length (secondBytes k) ≡ 72
-second-room k e = ap length (second-there k e) ∙ rotary-length (k .second)
+  pub second-room : eqb (k .count) 2 ≡ true → length (secondBytes w k) ≡ w
+  second-room e = ap length (second-there e) ∙ rotary-length w width (k .second)
 
-pub long-chain : (k : Kinematics) → length (chainBytes k) ≡ 80 + length (secondBytes k) + 24
-unfolding chainBytes
-long-chain k =
-    let a = length-append (rotaryBytes (k .first)) (secondBytes k ++ vectorBytes (k .«spindle_axis»)) in
-    let b = length-append (secondBytes k) (vectorBytes (k .«spindle_axis»)) in
-    let c = rotary-length (k .first) in
-    let d = length-vector (k .«spindle_axis») in
-    omega (arith, a, b, c, d)
+  pub long-chain : length (chainBytes w k) ≡ 8 + w + length (secondBytes w k) + 24
+  unfolding chainBytes
+  long-chain =
+      let a = length-append (rotaryBytes w (k .first)) (secondBytes w k ++ vectorBytes (k .«spindle_axis»)) in
+      let b = length-append (secondBytes w k) (vectorBytes (k .«spindle_axis»)) in
+      let c = rotary-length w width (k .first) in
+      let d = length-vector (k .«spindle_axis») in
+      omega (arith, a, b, c, d)
 
-whole-chain : (k : Kinematics) (end : ℕ) (o o1 o2 o3 o4 : List ℕ) → o1 ≡ written o 0 (headBytes (k .count) 0 0) → o2 ≡ written o1 8 (rotaryBytes (k .first))
-    → (end ≡ 80 + length (secondBytes k)) × (o3 ≡ written o2 80 (secondBytes k)) → o4 ≡ written o3 end (vectorBytes (k .«spindle_axis»)) → o4 ≡ written o 0 (chainBytes k)
-unfolding chainBytes
-whole-chain k end o o1 o2 o3 o4 p q r s =
-    joined o o1 o4 (headBytes (k .count) 0 0) (rotaryBytes (k .first) ++ (secondBytes k ++ vectorBytes (k .«spindle_axis»))) 0 8 8 refl refl p
-    (joined o1 o2 o4 (rotaryBytes (k .first)) (secondBytes k ++ vectorBytes (k .«spindle_axis»)) 8 72 80 (rotary-length (k .first)) refl q
-    (joined o2 o3 o4 (secondBytes k) (vectorBytes (k .«spindle_axis»)) 80 (length (secondBytes k)) end refl (sym (r .0)) (r .1) s))
+  whole-chain : (end : ℕ) (o o1 o2 o3 o4 : List ℕ) → o1 ≡ written o 0 (headBytes (k .count) 0 0) → o2 ≡ written o1 8 (rotaryBytes w (k .first))
+      → (end ≡ 8 + w + length (secondBytes w k)) × (o3 ≡ written o2 (8 + w) (secondBytes w k)) → o4 ≡ written o3 end (vectorBytes (k .«spindle_axis»)) → o4 ≡ written o 0 (chainBytes w k)
+  unfolding chainBytes
+  whole-chain end o o1 o2 o3 o4 p q r s =
+      joined o o1 o4 (headBytes (k .count) 0 0) (rotaryBytes w (k .first) ++ (secondBytes w k ++ vectorBytes (k .«spindle_axis»))) 0 8 8 refl refl p
+      (joined o1 o2 o4 (rotaryBytes w (k .first)) (secondBytes w k ++ vectorBytes (k .«spindle_axis»)) 8 w (8 + w) (rotary-length w width (k .first)) refl q
+      (joined o2 o3 o4 (secondBytes w k) (vectorBytes (k .«spindle_axis»)) (8 + w) (length (secondBytes w k)) end refl (sym (r .0)) (r .1) s))
 
-pub put-chain : (k : Kinematics) (end : ℕ) (o o1 o2 o3 o4 : List ℕ) → o1 ≡ written o 0 (headBytes (k .count) 0 0) → o2 ≡ written o1 8 (rotaryBytes (k .first))
-    → (end ≡ 80 + length (secondBytes k)) × (o3 ≡ written o2 80 (secondBytes k)) → o4 ≡ written o3 end (vectorBytes (k .«spindle_axis»)) → (end + 24 ≡ length (chainBytes k)) × (o4 ≡ written o 0 (chainBytes k))
-put-chain k end o o1 o2 o3 o4 p q r s =
-    let e = r .0 in
-    let l = long-chain k in
-    (omega (arith, e, l), whole-chain k end o o1 o2 o3 o4 p q r s)
+  pub put-chain : (end : ℕ) (o o1 o2 o3 o4 : List ℕ) → o1 ≡ written o 0 (headBytes (k .count) 0 0) → o2 ≡ written o1 8 (rotaryBytes w (k .first))
+      → (end ≡ 8 + w + length (secondBytes w k)) × (o3 ≡ written o2 (8 + w) (secondBytes w k)) → o4 ≡ written o3 end (vectorBytes (k .«spindle_axis»)) → (end + 24 ≡ length (chainBytes w k)) × (o4 ≡ written o 0 (chainBytes w k))
+  put-chain end o o1 o2 o3 o4 p q r s =
+      let e = r .0 in
+      let l = long-chain in
+      (omega (arith, e, l), whole-chain end o o1 o2 o3 o4 p q r s)
 
 -- ---- the poses
 pub record Poses (poses : List Float) (o : List ℕ) (at : ℕ) (l : List ℕ) (i : ℕ) : Type 0 where
@@ -188,36 +205,44 @@ module _ {poses : List Float} {o : List ℕ} {at : ℕ} where
       none l k = unfold written posesBytes flat in refl
 
 -- ---- trailer and job
-pub put-trailer : (chain count : ℕ) (cone : Float) (tol : Tolerances) (at : ℕ) (o o1 o2 o3 o4 o5 o6 o7 : List ℕ) → o1 ≡ written o (Trailer.chainField at) (bytesOf 4 0)
-    → o2 ≡ written o1 (Trailer.posesField at) (bytesOf 4 chain) → o3 ≡ written o2 (Trailer.countField at) (bytesOf 4 count) → o4 ≡ written o3 (Trailer.wordField at) (bytesOf 4 0)
+pub put-trailer : (chain count word : ℕ) (cone : Float) (tol : Tolerances) (at : ℕ) (o o1 o2 o3 o4 o5 o6 o7 : List ℕ) → o1 ≡ written o (Trailer.chainField at) (bytesOf 4 0)
+    → o2 ≡ written o1 (Trailer.posesField at) (bytesOf 4 chain) → o3 ≡ written o2 (Trailer.countField at) (bytesOf 4 count) → o4 ≡ written o3 (Trailer.wordField at) (bytesOf 4 word)
     → o5 ≡ written o4 (Trailer.coneField at) (numberBytes cone) → o6 ≡ written o5 (Trailer.chordField at) (numberBytes (tol .chord)) → o7 ≡ written o6 (Trailer.axisField at) (numberBytes (tol .axis))
-    → o7 ≡ written o at (trailerBytes chain count cone tol)
-put-trailer chain count cone tol at o o1 o2 o3 o4 o5 o6 o7 p1 p2 p3 p4 p5 p6 p7 =
-    let whole : o7 ≡ written o at (bytesOf 4 0 ++ (bytesOf 4 chain ++ (bytesOf 4 count ++ (bytesOf 4 0 ++ (numberBytes cone ++ (numberBytes (tol .chord) ++ numberBytes (tol .axis))))))) =
+    → o7 ≡ written o at (trailerBytes chain count word cone tol)
+put-trailer chain count word cone tol at o o1 o2 o3 o4 o5 o6 o7 p1 p2 p3 p4 p5 p6 p7 =
+    let whole : o7 ≡ written o at (bytesOf 4 0 ++ (bytesOf 4 chain ++ (bytesOf 4 count ++ (bytesOf 4 word ++ (numberBytes cone ++ (numberBytes (tol .chord) ++ numberBytes (tol .axis))))))) =
     joined o o1 o7 _ _ at 4 (at + 4) (length-bytes 4 0) refl p1
     (joined o1 o2 o7 _ _ (at + 4) 4 (at + 8) (length-bytes 4 chain) (omega arith) p2
     (joined o2 o3 o7 _ _ (at + 8) 4 (at + 12) (length-bytes 4 count) (omega arith) p3
-    (joined o3 o4 o7 _ _ (at + 12) 4 (at + 16) (length-bytes 4 0) (omega arith) p4
+    (joined o3 o4 o7 _ _ (at + 12) 4 (at + 16) (length-bytes 4 word) (omega arith) p4
     (joined o4 o5 o7 _ _ (at + 16) 8 (at + 24) (length-number cone) (omega arith) p5
     (joined o5 o6 o7 _ _ (at + 24) 8 (at + 32) (length-number (tol .chord)) (omega arith) p6 p7)))))
     in
-    whole ∙ ap (written o at) (sym (trailer-parts chain count cone tol))
+    whole ∙ ap (written o at) (sym (trailer-parts chain count word cone tol))
 
-whole-job : (k : Kinematics) (poses : List Float) (cone : Float) (tol : Tolerances) (chain : ℕ) (o o1 o2 o3 : List ℕ) → oneOrTwo (k .count) ≡ true
-    → (chain ≡ length (chainBytes k)) × (o1 ≡ written o 0 (chainBytes k)) → o2 ≡ written o1 chain (posesBytes poses)
-    → o3 ≡ written o2 (chain + length poses * 8) (trailerBytes chain (length poses / 6) cone tol) → o3 ≡ written o 0 (jobBytes k poses cone tol)
-unfolding jobBytes
-whole-job k poses cone tol chain o o1 o2 o3 h p q r =
-    joined o o1 o3 (chainBytes k) (posesBytes poses ++ trailerBytes (chainLength 72 (k .count)) (length poses / 6) cone tol) 0 (length (chainBytes k)) chain refl (omega (arith, p .0)) (p .1)
-    (joined o1 o2 o3 (posesBytes poses) (trailerBytes (chainLength 72 (k .count)) (length poses / 6) cone tol) chain (8 * length poses) (chain + length poses * 8) (poses-length poses) (omega arith) q
-    (r ∙ ap (λ (n : ℕ). written o2 (chain + length poses * 8) (trailerBytes n (length poses / 6) cone tol)) (p .0 ∙ chain-length k h)))
+module _ (k : Kinematics) (poses : List Float) (cone : Float) (tol : Tolerances) where
+  abbrev W : ℕ
+  W = recordOf k
 
-pub put-job : (k : Kinematics) (poses : List Float) (cone : Float) (tol : Tolerances) (chain : ℕ) (o o1 o2 o3 : List ℕ) → oneOrTwo (k .count) ≡ true
-    → (chain ≡ length (chainBytes k)) × (o1 ≡ written o 0 (chainBytes k)) → o2 ≡ written o1 chain (posesBytes poses)
-    → o3 ≡ written o2 (chain + length poses * 8) (trailerBytes chain (length poses / 6) cone tol)
-    → (chain + length poses * 8 + 40 ≡ jobLength (k .count) (length poses)) × (o3 ≡ written o 0 (jobBytes k poses cone tol))
-unfolding jobLength
-put-job k poses cone tol chain o o1 o2 o3 h p q r =
-    let a = chain-length k h in
-    let b = p .0 in
-    (omega (arith, a, b), whole-job k poses cone tol chain o o1 o2 o3 h p q r)
+  whole-job : (chain : ℕ) (o o1 o2 o3 : List ℕ) → oneOrTwo (k .count) ≡ true
+      → (chain ≡ length (chainBytes W k)) × (o1 ≡ written o 0 (chainBytes W k)) → o2 ≡ written o1 chain (posesBytes poses)
+      → o3 ≡ written o2 (chain + length poses * 8) (trailerBytes chain (length poses / 6) (wordOf k) cone tol) → o3 ≡ written o 0 (jobBytes k poses cone tol)
+  unfolding jobBytes
+  whole-job chain o o1 o2 o3 h p q r =
+      let last = trailerBytes (chainLength W (k .count)) (length poses / 6) (wordOf k) cone tol in
+      joined o o1 o3 (chainBytes W k) (posesBytes poses ++ last) 0 (length (chainBytes W k)) chain refl (omega (arith, p .0)) (p .1)
+      (joined o1 o2 o3 (posesBytes poses) last chain (8 * length poses) (chain + length poses * 8) (poses-length poses) (omega arith) q
+      (r ∙ ap (λ (n : ℕ). written o2 (chain + length poses * 8) (trailerBytes n (length poses / 6) (wordOf k) cone tol)) (p .0 ∙ chain-length W (record-width k) k h)))
+
+  -- with the records' length and the word as the code has them
+  pub put-job : (w word chain : ℕ) (o o1 o2 o3 : List ℕ) → w ≡ W → word ≡ wordOf k → oneOrTwo (k .count) ≡ true
+      → (chain ≡ length (chainBytes w k)) × (o1 ≡ written o 0 (chainBytes w k)) → o2 ≡ written o1 chain (posesBytes poses)
+      → o3 ≡ written o2 (chain + length poses * 8) (trailerBytes chain (length poses / 6) word cone tol)
+      → (chain + length poses * 8 + 40 ≡ lengthOf k poses) × (o3 ≡ written o 0 (jobBytes k poses cone tol))
+  unfolding jobLength
+  put-job w word chain o o1 o2 o3 f g h p q r =
+      let first = rw f at p in
+      let last = rw g at r in
+      let a = chain-length W (record-width k) k h in
+      let b = first .0 in
+      (omega (arith, a, b), whole-job chain o o1 o2 o3 h first q last)

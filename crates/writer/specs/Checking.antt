@@ -12,7 +12,7 @@ use Rattle.refusal.specs.Numbers as Numbers
 use Rattle.chain.specs.declared.Checked.{Checked}
 use Rattle.chain.specs.declared.Checked.the-variants as Checked
 use Rattle.chain.specs.declared.Kinematics.{Kinematics}
-use Rattle.chain.specs.Check.{demand, firstRefusal, chainCheck, pivotsWithin}
+use Rattle.chain.specs.Check.{demand, firstRefusal, chainCheck, chainWithin}
 use Rattle.chain.specs.ChainBytes.{chainLength}
 use Rattle.path.specs.Solving.{coneGood, posesIn}
 use Rattle.middle.specs.declared.Tolerances.{Tolerances}
@@ -24,16 +24,19 @@ use Rattle.job.specs.JobBytes.{readJob}
 use Rattle.job.specs.JobPoses.{posesOf}
 use Rattle.writer.specs.declared.Written.{Written}
 use Rattle.writer.specs.declared.Written.the-variants as Written
-use Rattle.writer.specs.Writing.{jobBytes, jobOf}
+use Rattle.writer.specs.Writing.{recordOf, jobBytes, jobOf}
 
 -- ---- sizes
--- how many bytes a job has, by its rotaries and the numbers of its poses
-unfoldable pub jobLength : (count numbers : ℕ) → ℕ
-jobLength count numbers = chainLength 72 count + 8 * numbers + 40
+-- how many bytes a job has, by its records, its rotaries and the numbers of its poses
+unfoldable pub jobLength : (w count numbers : ℕ) → ℕ
+jobLength w count numbers = chainLength w count + 8 * numbers + 40
 
--- pivots and tips, and a job of at most 65,536 bytes. A pose's axis has no size.
+abbrev pub lengthOf : Kinematics → List Float → ℕ
+lengthOf k poses = jobLength (recordOf k) (k .count) (length poses)
+
+-- the chain's sizes and the tips', and a job of at most 65,536 bytes. A pose's axis has no size.
 unfoldable pub writeSizes : Kinematics → List Float → Bool
-writeSizes k poses = pivotsWithin k && all tipWithin (posesIn poses) && leb (jobLength (k .count) (length poses)) 65536
+writeSizes k poses = chainWithin k && all tipWithin (posesIn poses) && leb (lengthOf k poses) 65536
 
 -- ---- the list: the chain comes before the cone, and space last
 unfoldable pub inOrder : Kinematics → (whole cone chord axis finite sizes space : Bool) → Checked
@@ -53,7 +56,7 @@ inOrder k whole cone chord axis finite sizes space =
 unfoldable pub writeCheck : Kinematics → List Float → Float → Tolerances → (room : ℕ) → Checked
 writeCheck k poses cone tol room =
     inOrder k (eqb (length poses % 6) 0) (coneGood cone) (toleranceGood (tol .chord)) (toleranceGood (tol .axis)) (all finite poses) (writeSizes k poses)
-    (leb (jobLength (k .count) (length poses)) room)
+    (leb (lengthOf k poses) room)
 
 -- ---- what is answered, and what is left: a refusal keeps the lent bytes, and those behind a job stay
 abbrev pub answerAfter : Checked → ℕ → Written
@@ -61,7 +64,7 @@ answerAfter Checked.Passed n = Written.Bytes n
 answerAfter (Checked.Refused r) n = Written.Refused r
 
 unfoldable pub writtenAnswer : Kinematics → List Float → Float → Tolerances → (room : ℕ) → Written
-writtenAnswer k poses cone tol room = answerAfter (writeCheck k poses cone tol room) (jobLength (k .count) (length poses))
+writtenAnswer k poses cone tol room = answerAfter (writeCheck k poses cone tol room) (lengthOf k poses)
 
 abbrev pub bytesAfter : Checked → (job out : List ℕ) → List ℕ
 bytesAfter Checked.Passed job out = job ++ drop (length job) out
@@ -75,7 +78,7 @@ writtenJob k poses cone tol out = bytesAfter (writeCheck k poses cone tol (lengt
 abbrev pub ReadBack : Kinematics → List Float → Float → Tolerances → (room : ℕ) → Type 0
 ReadBack k poses cone tol room =
     writeCheck k poses cone tol room ≡ Checked.Passed
-    → (readJob 72 (jobBytes k poses cone tol) ≡ JobRead.Job (jobOf k poses cone tol)) × (posesOf (jobBytes k poses cone tol) (jobOf k poses cone tol) ≡ poses)
+    → (readJob (jobBytes k poses cone tol) ≡ JobRead.Job (jobOf k poses cone tol)) × (posesOf (jobBytes k poses cone tol) (jobOf k poses cone tol) ≡ poses)
 
 abbrev pub tolerancesOf : Job → Tolerances
 tolerancesOf j = record { chord = j .chord; axis = j .axis }
@@ -90,4 +93,4 @@ SameFile (JobRead.Job j) file room =
 -- of every file that the writer could have produced
 abbrev pub Rewritten : Kinematics → List Float → Float → Tolerances → (room : ℕ) → Type 0
 Rewritten k poses cone tol room =
-    writeCheck k poses cone tol room ≡ Checked.Passed → SameFile (readJob 72 (jobBytes k poses cone tol)) (jobBytes k poses cone tol) room
+    writeCheck k poses cone tol room ≡ Checked.Passed → SameFile (readJob (jobBytes k poses cone tol)) (jobBytes k poses cone tol) room

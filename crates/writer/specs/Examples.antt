@@ -21,7 +21,8 @@ use Rattle.chain.specs.Check.{chainCheck}
 use Rattle.chain.specs.ChainBytes.{noRotary}
 use Rattle.middle.specs.declared.Tolerances.{Tolerances}
 use Rattle.job.specs.Spelling.{written, bitsOf}
-use Rattle.writer.specs.Writing.{bytesOf, numberBytes, vectorBytes, rotaryBytes, secondBytes, chainBytes, posesBytes, trailerBytes, jobBytes}
+use Rattle.job.specs.JobBytes.{wordLength}
+use Rattle.writer.specs.Writing.{bytesOf, numberBytes, vectorBytes, restBytes, rotaryBytes, restNought, secondNought, wordOf, recordOf, secondBytes, chainBytes, posesBytes, trailerBytes, jobBytes}
 use Rattle.writer.specs.Checking.{jobLength, inOrder}
 
 -- ---- numbers: 1, -0.0 and the smallest above 0
@@ -38,11 +39,11 @@ unfolding one oneBytes numberBytes bytesOf bitsOf ofBits toBits Ieee.ne Ieee.eq
 numbers = (refl, refl, refl)
 
 -- ---- a job without poses: a head C about z without limits, a cone of 1 degree, tolerances of 1 mm and 0.5 degrees.
--- The poses would start at 104, the chain's end.
-chain : Kinematics
-chain = record {
+-- The poses would start at 104, the chain's end; with a rest angle at 112.
+chain : Float → Kinematics
+chain rest = record {
   count = 1;
-  first = record { letter = 67; carrier = Head; limits = Unlimited; axis = vector nought nought one; pivot = vector nought nought nought };
+  first = record { letter = 67; carrier = Head; limits = Unlimited; axis = vector nought nought one; pivot = vector nought nought nought; rest = rest };
   second = noRotary;
   «spindle_axis» = vector nought nought one;
 }
@@ -50,21 +51,42 @@ chain = record {
 tolerances : Tolerances
 tolerances = record { chord = one; axis = ofBits binary64 0x3fe0_0000_0000_0000 }
 
-no-poses : jobBytes chain [] one tolerances
+no-poses : jobBytes (chain nought) [] one tolerances
     ≡ (1 ∷ replicate 7 0)
     ++ ((67 ∷ 1 ∷ 0 ∷ replicate 5 0) ++ (replicate 16 0 ++ oneBytes) ++ replicate 24 0 ++ replicate 16 0)
     ++ (replicate 16 0 ++ oneBytes)
     ++ (replicate 4 0 ++ (104 ∷ 0 ∷ 0 ∷ 0 ∷ []) ++ replicate 4 0 ++ replicate 4 0 ++ oneBytes ++ oneBytes ++ (0 ∷ 0 ∷ 0 ∷ 0 ∷ 0 ∷ 0 ∷ 224 ∷ 63 ∷ []))
-unfolding one oneBytes chain tolerances jobBytes chainBytes secondBytes rotaryBytes vectorBytes posesBytes flat trailerBytes numberBytes bytesOf written bitsOf ofBits toBits Ieee.ne Ieee.eq
+unfolding one oneBytes chain tolerances jobBytes recordOf wordOf secondNought restNought wordLength chainBytes secondBytes rotaryBytes restBytes vectorBytes posesBytes flat trailerBytes numberBytes bytesOf written bitsOf ofBits toBits Ieee.ne Ieee.eq
 no-poses = refl
 
--- ---- 1,362 poses with one rotary and 1,360 with two are the most
-longest : (leb (jobLength 1 (6 * 1362)) 65536 ≡ true)
-    × (leb (jobLength 1 (6 * 1363)) 65536 ≡ false)
-    × (leb (jobLength 2 (6 * 1360)) 65536 ≡ true)
-    × (leb (jobLength 2 (6 * 1361)) 65536 ≡ false)
+-- the same with a rest angle of 1 degree: it stands behind the limits, and the word is 1
+rested : jobBytes (chain one) [] one tolerances
+    ≡ (1 ∷ replicate 7 0)
+    ++ ((67 ∷ 1 ∷ 0 ∷ replicate 5 0) ++ (replicate 16 0 ++ oneBytes) ++ replicate 24 0 ++ replicate 16 0 ++ oneBytes)
+    ++ (replicate 16 0 ++ oneBytes)
+    ++ (replicate 4 0 ++ (112 ∷ 0 ∷ 0 ∷ 0 ∷ []) ++ replicate 4 0 ++ (1 ∷ 0 ∷ 0 ∷ 0 ∷ []) ++ oneBytes ++ oneBytes ++ (0 ∷ 0 ∷ 0 ∷ 0 ∷ 0 ∷ 0 ∷ 224 ∷ 63 ∷ []))
+unfolding one oneBytes chain tolerances jobBytes recordOf wordOf secondNought restNought wordLength chainBytes secondBytes rotaryBytes restBytes vectorBytes posesBytes flat trailerBytes numberBytes bytesOf written bitsOf ofBits toBits Ieee.ne Ieee.eq
+rested = refl
+
+-- -0.0 is no +0.0; and the rest angle of a second rotary that is not there does not count
+words : (wordOf (chain nought) ≡ 0)
+    × (wordOf (chain (ofBits binary64 0x8000_0000_0000_0000)) ≡ 1)
+    × (wordOf (record { count = 1; first = chain nought .first; second = chain one .first; «spindle_axis» = vector nought nought one }) ≡ 0)
+    × (wordOf (record { count = 2; first = chain nought .first; second = chain one .first; «spindle_axis» = vector nought nought one }) ≡ 1)
+unfolding one chain wordOf secondNought restNought bitsOf ofBits toBits Ieee.ne Ieee.eq
+words = (refl, refl, refl, refl)
+
+-- ---- 1,362 poses with one rotary and 1,360 with two are the most, with rest angles or without
+longest : (leb (jobLength 72 1 (6 * 1362)) 65536 ≡ true)
+    × (leb (jobLength 72 1 (6 * 1363)) 65536 ≡ false)
+    × (leb (jobLength 72 2 (6 * 1360)) 65536 ≡ true)
+    × (leb (jobLength 72 2 (6 * 1361)) 65536 ≡ false)
+    × (leb (jobLength 80 1 (6 * 1362)) 65536 ≡ true)
+    × (leb (jobLength 80 1 (6 * 1363)) 65536 ≡ false)
+    × (leb (jobLength 80 2 (6 * 1360)) 65536 ≡ true)
+    × (leb (jobLength 80 2 (6 * 1361)) 65536 ≡ false)
 unfolding jobLength
-longest = (refl, refl, refl, refl)
+longest = (refl, refl, refl, refl, refl, refl, refl, refl)
 
 -- ---- each refusal with everything behind it at fault too
 refused : ℕ → Checked

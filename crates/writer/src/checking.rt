@@ -6,27 +6,28 @@ ghost use lib.ListN.{length};
 ghost use Rattle.chain.specs.declared.Checked.the-variants.{Passed};
 ghost use Rattle.divide.specs.Checking.{FitUpTo};
 ghost use Rattle.writer.specs.Checking as S;
+use crate::resting::record_of;
 use chain::Checked;
 use chain::Kinematics;
 use chain::demand;
 use chain::then;
 use middle::Tolerances;
 
-// Whether a job has at most so many bytes.
-fn job_within(count: u8, numbers: usize, most: usize) -> bool
-    requires { ⌜ 8 * numbers ≤ 9223372036854775807 ⌝ }
-    ensures { λ r. ⌜ r ≡ leb (S.jobLength count numbers) most ⌝ }
+// Whether a job with records of w bytes has at most so many bytes.
+fn job_within(w: usize, count: u8, numbers: usize, most: usize) -> bool
+    requires { ⌜ (w ≤ 80) × (8 * numbers ≤ 9223372036854775807) ⌝ }
+    ensures { λ r. ⌜ r ≡ leb (S.jobLength w count numbers) most ⌝ }
 {
-    let length = 32 + 72 * (count as usize) + 8 * numbers + 40;
+    let length = 32 + w * (count as usize) + 8 * numbers + 40;
     length <= most
 }
 
 fn write_sizes(k: Kinematics, poses: &[f64]) -> bool
     ensures { λ r. ⌜ r ≡ S.writeSizes k (now (poses .entry)) ⌝ }
 {
-    if chain::pivots_within(k) {
+    if chain::chain_within(k) {
         if divide::tips_within(poses) {
-            return job_within(k.count, poses.len(), 65536);
+            return job_within(record_of(k), k.count, poses.len(), 65536);
         }
     }
     false
@@ -69,7 +70,7 @@ pub fn write_check(k: Kinematics, poses: &[f64], cone: f64, tol: Tolerances, roo
     let axis = divide::tolerance_good(tol.axis);
     let finite = divide::numbers_finite(poses, poses.len());
     let sizes = write_sizes(k, poses);
-    let space = job_within(k.count, poses.len(), room);
+    let space = job_within(record_of(k), k.count, poses.len(), room);
     let whole = poses.len() % 6 == 0;
     in_order(k, whole, angle, chord, axis, finite, sizes, space)
 }

@@ -5,6 +5,7 @@ ghost use lib.ListN.{length};
 ghost use Rattle.writer.specs.Checking as S;
 
 mod checking;
+mod resting;
 mod writing;
 
 use chain::Checked;

@@ -5,8 +5,10 @@ ghost use mathlib.Core.Bool.{true};
 ghost use lib.ListN.{length};
 ghost use Rattle.chain.specs.Check.{oneOrTwo};
 ghost use Rattle.job.specs.Spelling.{written};
-ghost use Rattle.writer.specs.Checking.{jobLength};
+ghost use Rattle.writer.specs.Checking.{lengthOf};
 ghost use Rattle.writer.specs.Writing as S;
+use crate::resting::record_of;
+use crate::resting::word_of;
 use chain::Carrier;
 use chain::Kinematics;
 use chain::RotaryJoint;
@@ -95,9 +97,20 @@ fn upper(limits: Travel) -> f64
     }
 }
 
-fn put_rotary(j: RotaryJoint, out: &mut [u8], at: usize)
-    requires { ⌜ at + 72 ≤ length (now out) ⌝ }
-    ensures { λ u. ⌜ now (out .exit) ≡ written (now (out .entry)) at (S.rotaryBytes j) ⌝ }
+// The rest angle, in a record that has one.
+fn put_rest(w: usize, rest: f64, out: &mut [u8], at: usize)
+    requires { ⌜ at + length (S.restBytes w rest) ≤ length (now out) ⌝ }
+    ensures { λ u. ⌜ now (out .exit) ≡ written (now (out .entry)) at (S.restBytes w rest) ⌝ }
+{
+    if w == 80 {
+        put_number(rest, out, at);
+        return;
+    }
+}
+
+fn put_rotary(w: usize, j: RotaryJoint, out: &mut [u8], at: usize)
+    requires { ⌜ S.Width w × (at + w ≤ length (now out)) ⌝ }
+    ensures { λ u. ⌜ now (out .exit) ≡ written (now (out .entry)) at (S.rotaryBytes w j) ⌝ }
 {
     let carrier = j.carrier;
     let limits = j.limits;
@@ -110,30 +123,31 @@ fn put_rotary(j: RotaryJoint, out: &mut [u8], at: usize)
     put_vector(j.pivot, out, at + 32);
     put_number(min, out, at + 56);
     put_number(max, out, at + 64);
+    put_rest(w, j.rest, out, at + 72);
 }
 
 // ---- the chain
 // Answers where it ends.
-fn put_second(k: Kinematics, out: &mut [u8], at: usize) -> usize
-    requires { ⌜ at + length (S.secondBytes k) ≤ length (now out) ⌝ }
-    ensures end { λ r. ⌜ r ≡ at + length (S.secondBytes k) ⌝ }
-    ensures lent { λ r. ⌜ now (out .exit) ≡ written (now (out .entry)) at (S.secondBytes k) ⌝ }
+fn put_second(w: usize, k: Kinematics, out: &mut [u8], at: usize) -> usize
+    requires { ⌜ S.Width w × (at + length (S.secondBytes w k) ≤ length (now out)) ⌝ }
+    ensures end { λ r. ⌜ r ≡ at + length (S.secondBytes w k) ⌝ }
+    ensures lent { λ r. ⌜ now (out .exit) ≡ written (now (out .entry)) at (S.secondBytes w k) ⌝ }
 {
     if k.count == 2 {
-        put_rotary(k.second, out, at);
-        return at + 72;
+        put_rotary(w, k.second, out, at);
+        return at + w;
     }
     at
 }
 
-fn put_chain(k: Kinematics, out: &mut [u8]) -> usize
-    requires { ⌜ length (S.chainBytes k) ≤ length (now out) ⌝ }
-    ensures end { λ r. ⌜ r ≡ length (S.chainBytes k) ⌝ }
-    ensures lent { λ r. ⌜ now (out .exit) ≡ written (now (out .entry)) 0 (S.chainBytes k) ⌝ }
+fn put_chain(w: usize, k: Kinematics, out: &mut [u8]) -> usize
+    requires { ⌜ S.Width w × (length (S.chainBytes w k) ≤ length (now out)) ⌝ }
+    ensures end { λ r. ⌜ r ≡ length (S.chainBytes w k) ⌝ }
+    ensures lent { λ r. ⌜ now (out .exit) ≡ written (now (out .entry)) 0 (S.chainBytes w k) ⌝ }
 {
     put_head(k.count, 0, 0, out, 0);
-    put_rotary(k.first, out, 8);
-    let end = put_second(k, out, 80);
+    put_rotary(w, k.first, out, 8);
+    let end = put_second(w, k, out, 8 + w);
     put_vector(k.spindle_axis, out, end);
     end + 24
 }
@@ -152,14 +166,22 @@ fn put_poses(poses: &[f64], out: &mut [u8], at: usize)
 }
 
 // `chain` is the chain's length: the poses begin at its end, also where there are none.
-fn put_trailer(chain: u64, count: u64, cone: f64, tol: Tolerances, out: &mut [u8], at: usize)
+fn put_trailer(
+    chain: u64,
+    count: u64,
+    word: u64,
+    cone: f64,
+    tol: Tolerances,
+    out: &mut [u8],
+    at: usize,
+)
     requires { ⌜ at + 40 ≤ length (now out) ⌝ }
-    ensures { λ u. ⌜ now (out .exit) ≡ written (now (out .entry)) at (S.trailerBytes chain count cone tol) ⌝ }
+    ensures { λ u. ⌜ now (out .exit) ≡ written (now (out .entry)) at (S.trailerBytes chain count word cone tol) ⌝ }
 {
     put_whole(4, 0, out, at);
     put_whole(4, chain, out, at + 4);
     put_whole(4, count, out, at + 8);
-    put_whole(4, 0, out, at + 12);
+    put_whole(4, word, out, at + 12);
     put_number(cone, out, at + 16);
     put_number(tol.chord, out, at + 24);
     put_number(tol.axis, out, at + 32);
@@ -167,13 +189,16 @@ fn put_trailer(chain: u64, count: u64, cone: f64, tol: Tolerances, out: &mut [u8
 
 // Answers how many bytes the job has.
 pub fn put_job(k: Kinematics, poses: &[f64], cone: f64, tol: Tolerances, out: &mut [u8]) -> usize
-    requires { ⌜ (oneOrTwo (k .count) ≡ true) × (jobLength (k .count) (length (now poses)) ≤ length (now out)) ⌝ }
-    ensures end { λ r. ⌜ r ≡ jobLength (k .count) (length (now (poses .entry))) ⌝ }
+    requires { ⌜ (oneOrTwo (k .count) ≡ true) × (lengthOf k (now poses) ≤ length (now out)) ⌝ }
+    ensures end { λ r. ⌜ r ≡ lengthOf k (now (poses .entry)) ⌝ }
     ensures lent { λ r. ⌜ now (out .exit) ≡ written (now (out .entry)) 0 (S.jobBytes k (now (poses .entry)) cone tol) ⌝ }
 {
-    let chain = put_chain(k, out);
+    let word = word_of(k);
+    let w = record_of(k);
+    let chain = put_chain(w, k, out);
     put_poses(poses, out, chain);
     let end = chain + poses.len() * 8;
-    put_trailer(chain as u64, (poses.len() / 6) as u64, cone, tol, out, end);
+    let count = poses.len() / 6;
+    put_trailer(chain as u64, count as u64, word as u64, cone, tol, out, end);
     end + 40
 }

@@ -19,6 +19,7 @@
 //!     axis 1 0 0               numbers, 8 bytes each
 //!     pivot 0 0 -100
 //!     limits -120 30
+//!     rest 90                  with a word of 1: the rest angle
 //!     ..                       the second rotary
 //!     spindle 0 0 1
 //!     poses:                   here the poses start, for pose-offset
@@ -26,7 +27,7 @@
 //!     chain-offset chain       4 bytes: where `chain:` stands, or a number
 //!     pose-offset poses        4 bytes: where `poses:` stands, or a number
 //!     pose-count all           4 bytes: how many lines are a `pose`, or a number
-//!     zero-word 0              4 bytes
+//!     word 1                   4 bytes: 1 with rest angles, else 0
 //!     cone 1
 //!     chord 0.01
 //!     axis-tolerance 0.5

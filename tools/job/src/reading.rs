@@ -6,7 +6,9 @@ use std::ops::Range;
 pub const MOST_BYTES: usize = 65_536;
 pub const TRAILER: usize = 40;
 pub const POSE: usize = 48;
+/// A rotary's record, and one with a rest angle.
 pub const ROTARY: usize = 72;
+pub const RESTED: usize = 80;
 
 #[derive(Clone, Debug, PartialEq)]
 pub struct Job {
@@ -80,6 +82,15 @@ impl Trailer {
         (self.chain < self.at as u64).then(|| bytes[self.chain as usize])
     }
 
+    /// How long a rotary's record is: with a word that is refused, as with 0.
+    pub fn rotary_length(&self) -> usize {
+        if self.word == 1 { RESTED } else { ROTARY }
+    }
+
+    pub fn chain_length(&self, rotaries: u8) -> usize {
+        8 + self.rotary_length() * usize::from(rotaries) + 24
+    }
+
     pub fn poses_end(&self) -> u64 {
         self.poses + POSE as u64 * self.count
     }
@@ -93,23 +104,22 @@ pub fn number(eight: &[u8]) -> f64 {
     f64::from_le_bytes(eight.try_into().expect("eight bytes"))
 }
 
-pub fn chain_length(rotaries: u8) -> usize {
-    8 + ROTARY * usize::from(rotaries) + 24
-}
-
 pub fn read(bytes: &[u8]) -> Result<Job, Breach> {
     let trailer = Trailer::of(bytes).filter(|_| bytes.len() <= MOST_BYTES);
     let trailer = trailer.ok_or(malformed(0))?;
     let at = trailer.at;
     let rotaries = trailer.rotaries(bytes).ok_or(malformed(at))?;
     demand((1..=2).contains(&rotaries), Breach { number: 3, at: 0 })?;
-    let chain_end = trailer.chain + chain_length(rotaries) as u64;
+    let chain_end = trailer.chain + trailer.chain_length(rotaries) as u64;
     demand(chain_end <= at as u64, malformed(at))?;
     demand(trailer.poses_end() <= at as u64, malformed(at + 4))?;
     demand(!trailer.overlaps(chain_end), malformed(at + 4))?;
-    demand(trailer.word == 0, malformed(at + 12))?;
+    demand(trailer.word <= 1, malformed(at + 12))?;
     let chain = trailer.chain as usize..chain_end as usize;
-    judge_chain(bytes, chain.start, usize::from(rotaries))?;
+    all_zero(bytes, chain.start + 1, 7)?;
+    for i in 0..usize::from(rotaries) {
+        judge_rotary(bytes, chain.start + 8 + trailer.rotary_length() * i, i)?;
+    }
     Ok(Job {
         chain,
         poses: trailer.poses as usize..trailer.poses_end() as usize,
@@ -117,11 +127,6 @@ pub fn read(bytes: &[u8]) -> Result<Job, Breach> {
         chord: trailer.number(bytes, 1),
         axis: trailer.number(bytes, 2),
     })
-}
-
-fn judge_chain(bytes: &[u8], at: usize, rotaries: usize) -> Result<(), Breach> {
-    all_zero(bytes, at + 1, 7)?;
-    (0..rotaries).try_for_each(|i| judge_rotary(bytes, at + 8 + ROTARY * i, i))
 }
 
 fn judge_rotary(bytes: &[u8], at: usize, index: usize) -> Result<(), Breach> {

@@ -17,10 +17,11 @@ impl fmt::Display for Fault {
 }
 
 /// Fields that are numbers alone, with how many they have.
-const NUMBERS: [(&str, usize); 8] = [
+const NUMBERS: [(&str, usize); 9] = [
     ("axis", 3),
     ("pivot", 3),
     ("limits", 2),
+    ("rest", 1),
     ("spindle", 3),
     ("pose", 6),
     ("cone", 1),
@@ -33,7 +34,7 @@ const WORDS: [(&str, &str); 4] = [
     ("chain-offset", "chain"),
     ("pose-offset", "poses"),
     ("pose-count", "all"),
-    ("zero-word", ""),
+    ("word", ""),
 ];
 
 #[derive(Default)]

@@ -1,7 +1,7 @@
 //! From bytes to text: named fields where they are, bytes elsewhere.
 
 use crate::numbers::spelt;
-use crate::reading::{POSE, ROTARY, Trailer, chain_length, number};
+use crate::reading::{POSE, ROTARY, Trailer, number};
 use std::fmt::Write;
 
 /// This many of one byte become a `fill`.
@@ -25,7 +25,7 @@ fn whole(text: &mut String, bytes: &[u8], trailer: &Trailer) {
     while at < trailer.at {
         at = match (chain, poses) {
             (Some(end), _) if trailer.chain == at as u64 => {
-                tell_chain(text, &bytes[at..end]);
+                tell_chain(text, &bytes[at..end], trailer.rotary_length());
                 end
             }
             (_, Some(end)) if trailer.poses == at as u64 => {
@@ -56,7 +56,7 @@ fn chain_end(bytes: &[u8], trailer: &Trailer) -> Option<usize> {
     let rotaries = trailer
         .rotaries(bytes)
         .filter(|rotaries| (1..=2).contains(rotaries))?;
-    let end = trailer.chain as usize + chain_length(rotaries);
+    let end = trailer.chain as usize + trailer.chain_length(rotaries);
     (end <= trailer.at).then_some(end)
 }
 
@@ -80,12 +80,12 @@ fn numbers(text: &mut String, field: &str, bytes: &[u8]) {
     line(text, format_args!("{field} {}", words.join(" ")));
 }
 
-fn tell_chain(text: &mut String, chain: &[u8]) {
+fn tell_chain(text: &mut String, chain: &[u8], rotary_length: usize) {
     line(text, "chain:");
     line(text, format_args!("count {}", chain[0]));
     zeros(text, &chain[1..8]);
     let spindle = chain.len() - 24;
-    for rotary in chain[8..spindle].chunks_exact(ROTARY) {
+    for rotary in chain[8..spindle].chunks_exact(rotary_length) {
         tell_rotary(text, rotary);
     }
     numbers(text, "spindle", &chain[spindle..]);
@@ -104,7 +104,10 @@ fn tell_rotary(text: &mut String, rotary: &[u8]) {
     zeros(text, &rotary[3..8]);
     numbers(text, "axis", &rotary[8..32]);
     numbers(text, "pivot", &rotary[32..56]);
-    numbers(text, "limits", &rotary[56..72]);
+    numbers(text, "limits", &rotary[56..ROTARY]);
+    if rotary.len() > ROTARY {
+        numbers(text, "rest", &rotary[ROTARY..]);
+    }
 }
 
 fn named(text: &mut String, field: &str, byte: u8, names: [&str; 2]) {
@@ -137,7 +140,7 @@ fn tell_trailer(text: &mut String, bytes: &[u8], trailer: &Trailer, [chain, pose
     four("chain-offset", trailer.chain, chain.then_some("chain"));
     four("pose-offset", trailer.poses, poses.then_some("poses"));
     four("pose-count", trailer.count, poses.then_some("all"));
-    four("zero-word", trailer.word, None);
+    four("word", trailer.word, None);
     for (i, field) in ["cone", "chord", "axis-tolerance"].iter().enumerate() {
         line(
             text,

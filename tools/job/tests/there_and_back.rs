@@ -53,7 +53,7 @@ pose 3 2 3 0 0 3FF0000000000000
 chain-offset chain
 pose-offset poses
 pose-count all
-zero-word 0
+word 0
 cone 1
 chord 0.5
 axis-tolerance 0.5
@@ -79,6 +79,29 @@ fn the_example() {
     same_again(&bytes);
 }
 
+/// The example with a rest angle, and the word that says so.
+fn rested() -> Vec<u8> {
+    let text = EXAMPLE.replace("limits 0 0\n", "limits 0 0\nrest -90\n");
+    bytes_of(&text.replace("word 0", "word 1")).unwrap()
+}
+
+#[test]
+fn a_rest_angle() {
+    let bytes = rested();
+    assert_eq!(bytes.len(), 112 + 2 * 48 + 40);
+    assert_eq!(bytes[80..88], (-90.0f64).to_le_bytes());
+    let job = read(&bytes).unwrap();
+    assert_eq!((job.chain, job.poses), (0..112, 112..208));
+    assert!(text_of(&bytes).contains("limits 0 0\nrest -90\nspindle 0 0 1\n"));
+    same_again(&bytes);
+    for (word, at) in [(0u8, None), (2, Some(220)), (255, Some(220))] {
+        let mut other = bytes.clone();
+        other[220] = word;
+        assert_eq!(read(&other).err().map(|breach| breach.at), at);
+        same_again(&other);
+    }
+}
+
 #[test]
 fn any_bytes() {
     let mut random = Random(1);
@@ -92,10 +115,10 @@ fn any_bytes() {
 /// A byte or several changed, one of the trailer's every other time, and bytes taken away or put in.
 #[test]
 fn damaged_jobs() {
-    let sound = bytes_of(EXAMPLE).unwrap();
+    let sound = [bytes_of(EXAMPLE).unwrap(), rested()];
     let mut random = Random(2);
-    for _ in 0..5000 {
-        let mut bytes = sound.clone();
+    for _ in 0..10_000 {
+        let mut bytes = sound[random.below(2)].clone();
         for _ in 0..1 + random.below(3) {
             let at = match random.below(2) {
                 0 => random.below(bytes.len()),
@@ -124,7 +147,7 @@ fn faults() {
         ("carrier desk", 1),
         ("pose 1 2 3 4 5", 1),
         ("cone nan", 1),
-        ("zero-word 4294967296", 1),
+        ("word 4294967296", 1),
         ("\n# nothing\nchain-offset chain", 3),
         ("chain:\nchain:", 2),
     ] {

@@ -17,6 +17,7 @@ pub fn rotary(letter: u8, carrier: Carrier, axis: [f64; 3]) -> Rotary {
         axis,
         pivot: [0.0; 3],
         limits: None,
+        rest: 0.0,
     }
 }
 
@@ -80,7 +81,8 @@ pub fn job_bytes(chain: &Chain, poses: &[Pose]) -> Vec<u8> {
 /// A job's bytes from its parts, by hand: what the library writes is held to them. The last numbers are the cone and
 /// the tolerances.
 pub fn packed(chain: &[u8], poses: &[f64], numbers: [f64; 3]) -> Vec<u8> {
-    let words = [0, chain.len() as u32, poses.len() as u32 / 6, 0];
+    let rested = [112, 192].contains(&chain.len());
+    let words = [0, chain.len() as u32, poses.len() as u32 / 6, u32::from(rested)];
     [
         chain.to_vec(),
         poses

@@ -66,7 +66,7 @@ impl Job {
     }
 
     fn read(&self, poses: &mut [f64]) {
-        let (mut places, mut numbers, mut at) = ([0; 3], [0.0; 3], 0);
+        let (mut places, mut numbers, mut at) = ([0; 4], [0.0; 3], 0);
         let job = black_box(&self.bytes);
         let number = maztubel::read_job(job, places.each_mut(), numbers.each_mut(), &mut at);
         assert_eq!(number, 0);

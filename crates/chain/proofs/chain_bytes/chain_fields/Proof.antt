@@ -1,26 +1,24 @@
-use borrow.Author.Needs.{needs}
+use native.Mathlib.Omega.{arith}
+use Rattle.chain.proofs.Bytes.{room-one}
 use Rattle.chain.specs.ChainBytes.{chainFields}
 use Rattle.chain.proofs.chain_bytes.chain_fields.Statement.{statement}
 use Rattle.chain.proofs.chain_bytes.chain_fields.Tie as tie
 
 zeros-requires : tie.Need-zeros-requires
-zeros-requires c κs = search needs
+zeros-requires c κs = let h = room-one _ _ _ (c .before .pre .0) (c .before .pre .2) in omega (arith, h)
 
 rotary-fields-requires : tie.Need-rotary-fields-requires
-rotary-fields-requires c κs = search needs
+rotary-fields-requires c κs =
+    let p = c .before .before .pre in
+    let h = room-one _ _ _ (p .0) (p .2) in
+    omega (arith, h, p .1)
 
 second-fields-requires : tie.Need-second-fields-requires
-second-fields-requires c κs = search needs
-
-then-requires : tie.Need-then-requires
-then-requires c κs = search needs
-
-then-requires-2 : tie.Need-then-requires-2
-then-requires-2 c κs = search needs
+second-fields-requires c κs = let p = c .before .before .before .pre in (p .1, p .2)
 
 returns : tie.Need-returns
 unfolding chainFields
 returns c = rw (c .then2 .ensures, c .before .then .ensures, c .before .before .second-fields .ensures, c .before .before .before .rotary-fields .ensures, c .before .before .before .before .zeros .ensures)
 
 pub chain-fields-spec : {M : Type 1} → statement M
-chain-fields-spec = tie.close (tie.spec zeros-requires rotary-fields-requires second-fields-requires then-requires then-requires-2 returns)
+chain-fields-spec = tie.close (tie.spec zeros-requires rotary-fields-requires second-fields-requires (λ c κs. tt) (λ c κs. tt) returns)

@@ -3,15 +3,15 @@ use Rattle.chain.specs.Check.{chainSizes}
 use Rattle.chain.proofs.checks.chain_sizes.Statement.{statement}
 use Rattle.chain.proofs.checks.chain_sizes.Tie as tie
 
-pivots-within-requires : tie.Need-pivots-within-requires
-pivots-within-requires c κs = search needs
+chain-within-requires : tie.Need-chain-within-requires
+chain-within-requires c κs = search needs
 
 demand-requires : tie.Need-demand-requires
 demand-requires c κs = search needs
 
 returns : tie.Need-returns
 unfolding chainSizes
-returns c = rw (c .demand .ensures, c .before .pivots-within .ensures)
+returns c = rw (c .demand .ensures, c .before .chain-within .ensures)
 
 pub chain-sizes-spec : {M : Type 1} → statement M
-chain-sizes-spec = tie.close (tie.spec pivots-within-requires demand-requires returns)
+chain-sizes-spec = tie.close (tie.spec chain-within-requires demand-requires returns)

@@ -1,10 +1,15 @@
+use native.Mathlib.Omega.{arith}
 use borrow.Author.Needs.{needs}
+use Rattle.chain.proofs.Bytes.{room-one}
 use Rattle.chain.specs.ReadySteps.{forwardCounted, readyCounted}
 use Rattle.chain.proofs.forward_map.forward_counted.Statement.{statement}
 use Rattle.chain.proofs.forward_map.forward_counted.Tie as tie
 
 first-good-requires : tie.Need-first-good-requires
-first-good-requires c κs = search needs
+first-good-requires c κs =
+    let p = c .before .pre in
+    let h = room-one _ _ _ (p .0) (p .2) in
+    (p .1, omega (arith, h))
 
 read-chain-requires : tie.Need-read-chain-requires
 read-chain-requires c κs = search needs
@@ -17,7 +22,7 @@ unfolding forwardCounted readyCounted
 returns c = rw (c .refused-read .ensures, c .before .read-chain .ensures, rw (c .before .before .before .first-good .ensures) at (c .before .before .if1 .taken))
 
 second-good-requires : tie.Need-second-good-requires
-second-good-requires c κs = search needs
+second-good-requires c κs = let p = c .before .before .before .pre in (p .1, p .2)
 
 read-chain-requires-2 : tie.Need-read-chain-requires-2
 read-chain-requires-2 c κs = search needs
@@ -30,7 +35,10 @@ unfolding forwardCounted readyCounted
 returns-2 c = rw (c .refused-read2 .ensures, c .before .read-chain2 .ensures, rw (c .before .before .before .before .before .first-good .ensures) at (c .before .before .before .before .if1 .left), rw (c .before .before .before .second-good .ensures) at (c .before .before .if2 .taken))
 
 vector-at-requires : tie.Need-vector-at-requires
-vector-at-requires c κs = search needs
+vector-at-requires c κs =
+    let p = c .before .before .before .before .before .pre in
+    let h = room-one _ _ _ (p .0) (p .2) in
+    omega (arith, h, p .1)
 
 unit-direction-requires : tie.Need-unit-direction-requires
 unit-direction-requires c κs = search needs
@@ -52,7 +60,7 @@ unfolding forwardCounted readyCounted
 returns-3 c = rw (c .refused-read3 .ensures, c .before .read-chain3 .ensures, rw (c .before .before .before .before .before .before .before .before .before .first-good .ensures) at (c .before .before .before .before .before .before .before .before .if1 .left), rw (c .before .before .before .before .before .before .before .second-good .ensures) at (c .before .before .before .before .before .before .if2 .left), rw (c .before .before .before .before .unit-direction .ensures, c .before .before .before .before .before .vector-at .ensures) at (c .before .before .enum-told .given .1))
 
 second-axis-requires : tie.Need-second-axis-requires
-second-axis-requires c κs = search needs
+second-axis-requires c κs = let p = c .before .before .before .before .before .before .before .before .before .before .pre in (p .1, p .2)
 
 enum-known-inner : tie.Need-enum-known-inner
 enum-known-inner c = search needs

@@ -9,12 +9,12 @@ within-requires c κs = search needs
 joints-within-requires : tie.Need-joints-within-requires
 joints-within-requires c κs = search needs
 
-pivots-within-requires : tie.Need-pivots-within-requires
-pivots-within-requires c κs = search needs
+chain-within-requires : tie.Need-chain-within-requires
+chain-within-requires c κs = search needs
 
 returns : tie.Need-returns
 unfolding forwardSizes
-returns c = rw (c .pivots-within .ensures, rw (c .before .before .before .before .within .ensures) at (c .before .before .before .if1 .taken), rw (c .before .before .joints-within .ensures) at (c .before .if2 .taken))
+returns c = rw (c .chain-within .ensures, rw (c .before .before .before .before .within .ensures) at (c .before .before .before .if1 .taken), rw (c .before .before .joints-within .ensures) at (c .before .if2 .taken))
 
 returns-2 : tie.Need-returns-2
 unfolding forwardSizes
@@ -25,4 +25,4 @@ unfolding forwardSizes
 returns-3 c = rw (rw (c .before .within .ensures) at (c .if1 .left))
 
 pub forward-sizes-spec : {M : Type 1} → statement M
-forward-sizes-spec = tie.close (tie.spec within-requires joints-within-requires pivots-within-requires returns returns-2 returns-3)
+forward-sizes-spec = tie.close (tie.spec within-requires joints-within-requires chain-within-requires returns returns-2 returns-3)

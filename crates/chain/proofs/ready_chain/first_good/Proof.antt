@@ -1,10 +1,11 @@
+use native.Mathlib.Omega.{arith}
 use borrow.Author.Needs.{needs}
 use Rattle.chain.specs.ReadySteps.{firstGood}
 use Rattle.chain.proofs.ready_chain.first_good.Statement.{statement}
 use Rattle.chain.proofs.ready_chain.first_good.Tie as tie
 
 zeros-requires : tie.Need-zeros-requires
-zeros-requires c κs = search needs
+zeros-requires c κs = omega arith
 
 enum-known-empty : tie.Need-enum-known-empty
 enum-known-empty c = search needs
@@ -17,7 +18,7 @@ enum-told : tie.Need-enum-told
 enum-told c = search needs
 
 record-good-requires : tie.Need-record-good-requires
-record-good-requires c κs = search needs
+record-good-requires c κs = c .before .before .before .before .pre
 
 returns-2 : tie.Need-returns-2
 unfolding firstGood

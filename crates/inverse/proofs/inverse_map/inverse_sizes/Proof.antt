@@ -12,12 +12,12 @@ all-within-requires c κs = search needs
 hint-within-requires : tie.Need-hint-within-requires
 hint-within-requires c κs = search needs
 
-pivots-within-requires : tie.Need-pivots-within-requires
-pivots-within-requires c κs = search needs
+chain-within-requires : tie.Need-chain-within-requires
+chain-within-requires c κs = search needs
 
 returns : tie.Need-returns
 unfolding inverseSizes
-returns c = rw (c .pivots-within .ensures, rw (c .before .before .before .before .before .before .within .ensures) at (c .before .before .before .before .before .if1 .taken), rw (c .before .before .before .before .all-within .ensures) at (c .before .before .before .if2 .taken), rw (c .before .before .hint-within .ensures) at (c .before .if3 .taken))
+returns c = rw (c .chain-within .ensures, rw (c .before .before .before .before .before .before .within .ensures) at (c .before .before .before .before .before .if1 .taken), rw (c .before .before .before .before .all-within .ensures) at (c .before .before .before .if2 .taken), rw (c .before .before .hint-within .ensures) at (c .before .if3 .taken))
 
 returns-2 : tie.Need-returns-2
 unfolding inverseSizes
@@ -32,4 +32,4 @@ unfolding inverseSizes
 returns-4 c = rw (rw (c .before .within .ensures) at (c .if1 .left))
 
 pub inverse-sizes-spec : {M : Type 1} → statement M
-inverse-sizes-spec = tie.close (tie.spec within-requires all-within-requires hint-within-requires pivots-within-requires returns returns-2 returns-3 returns-4)
+inverse-sizes-spec = tie.close (tie.spec within-requires all-within-requires hint-within-requires chain-within-requires returns returns-2 returns-3 returns-4)

@@ -21,7 +21,7 @@ enum-known-j c = search needs
 
 lend-requires : tie.Need-lend-requires
 lend-requires c κs =
-    let h = within 72 _ _ (is (c .before .before .before .before .read-job .ensures) (c .before .before .j .given .1)) .poses-in in
+    let h = within _ _ (is (c .before .before .before .before .read-job .ensures) (c .before .before .j .given .1)) .poses-in in
     omega (arith, h)
 
 enum-known-r : tie.Need-enum-known-r

@@ -1,5 +1,8 @@
+use Prim.Native.Nat.{_≤_}
+use native.Mathlib.Omega.{arith}
 use borrow.Author.Needs.{needs}
 use mathlib.Core.Path.{refl}
+use Rattle.chain.proofs.Bytes.{product-most}
 use Rattle.job.specs.JobBytes.{chainEnd}
 use Rattle.job.proofs.placing.chain_end.Statement.{statement}
 use Rattle.job.proofs.placing.chain_end.Tie as tie
@@ -8,13 +11,25 @@ cast-result : tie.Need-cast-result
 cast-result c = search needs
 
 mul-result : tie.Need-mul-result
-mul-result c = search needs
+mul-result c =
+    let l : c .before .args .count ≤ 255 = search needs in
+    let m : c .before .args .p .chain ≤ 4294967295 = search needs in
+    let h = product-most (c .before .args .w) (c .before .args .count) (c .before .pre) l in
+    omega (arith, h, m)
 
 add-result : tie.Need-add-result
-add-result c = search needs
+add-result c =
+    let l : c .before .args .count ≤ 255 = search needs in
+    let m : c .before .args .p .chain ≤ 4294967295 = search needs in
+    let h = product-most (c .before .args .w) (c .before .args .count) (c .before .pre) l in
+    omega (arith, h, m)
 
 add-result-2 : tie.Need-add-result-2
-add-result-2 c = search needs
+add-result-2 c =
+    let l : c .before .args .count ≤ 255 = search needs in
+    let m : c .before .args .p .chain ≤ 4294967295 = search needs in
+    let h = product-most (c .before .args .w) (c .before .args .count) (c .before .pre) l in
+    omega (arith, h, m)
 
 returns : tie.Need-returns
 unfolding chainEnd

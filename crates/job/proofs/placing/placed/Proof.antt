@@ -7,7 +7,7 @@ sub-trailer : tie.Need-sub-trailer
 sub-trailer c = search needs
 
 chain-end-requires : tie.Need-chain-end-requires
-chain-end-requires c κs = search needs
+chain-end-requires c κs = c .before .pre .0
 
 poses-end-requires : tie.Need-poses-end-requires
 poses-end-requires c κs = search needs

@@ -3,16 +3,16 @@ use Rattle.job.specs.Cable.{cableSizes}
 use Rattle.job.proofs.winding.cable_sizes.Statement.{statement}
 use Rattle.job.proofs.winding.cable_sizes.Tie as tie
 
-pivots-within-requires : tie.Need-pivots-within-requires
-pivots-within-requires c κs = search needs
+chain-within-requires : tie.Need-chain-within-requires
+chain-within-requires c κs = search needs
 
 returns : tie.Need-returns
 unfolding cableSizes
-returns c = rw (rw (c .before .pivots-within .ensures) at (c .if1 .taken))
+returns c = rw (rw (c .before .chain-within .ensures) at (c .if1 .taken))
 
 returns-2 : tie.Need-returns-2
 unfolding cableSizes
-returns-2 c = rw (rw (c .before .pivots-within .ensures) at (c .if1 .left))
+returns-2 c = rw (rw (c .before .chain-within .ensures) at (c .if1 .left))
 
 pub cable-sizes-spec : {M : Type 1} → statement M
-cable-sizes-spec = tie.close (tie.spec pivots-within-requires returns returns-2)
+cable-sizes-spec = tie.close (tie.spec chain-within-requires returns returns-2)

@@ -1,5 +1,5 @@
 use borrow.Author.Needs.{needs}
-use Rattle.job.specs.Cable.{surveyed}
+use Rattle.job.specs.Cable.{surveyed, windOf}
 use Rattle.job.proofs.winding.surveyed.Statement.{statement}
 use Rattle.job.proofs.winding.surveyed.Tie as tie
 
@@ -25,7 +25,7 @@ larger-requires : tie.Need-larger-requires
 larger-requires c κs = search needs
 
 returns : tie.Need-returns
-unfolding surveyed
+unfolding surveyed windOf
 returns c = rw (c .larger .ensures, c .before .turns-within .ensures, c .before .before .angle-of .ensures, c .before .before .before .also2 .ensures, c .before .before .before .before .joints-within .ensures, c .before .before .before .before .before .also .ensures, c .before .before .before .before .before .before .joints-finite .ensures)
 
 pub surveyed-spec : {M : Type 1} → statement M

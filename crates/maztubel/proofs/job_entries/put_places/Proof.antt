@@ -10,10 +10,7 @@ enum-told : tie.Need-enum-told
 enum-told c = search needs
 
 returns : tie.Need-returns
-returns c = rw (c .enum-told .given .1) (refl, (refl, refl))
-
-cast-chain-at : tie.Need-cast-chain-at
-cast-chain-at c = search needs
+returns c = rw (c .enum-told .given .1) (refl, refl)
 
 cast-poses-at : tie.Need-cast-poses-at
 cast-poses-at c = search needs
@@ -22,7 +19,7 @@ cast-count : tie.Need-cast-count
 cast-count c = search needs
 
 returns-2 : tie.Need-returns-2
-returns-2 c = rw (c .before .before .before .before .read .given .1) (refl, (refl, refl))
+returns-2 c = rw (c .before .before .before .read .given .1) (refl, refl)
 
 pub put-places-spec : {M : Type 1} → statement M
-put-places-spec = tie.close (tie.spec enum-known-read enum-told returns cast-chain-at cast-poses-at cast-count returns-2)
+put-places-spec = tie.close (tie.spec enum-known-read enum-told returns cast-poses-at cast-count returns-2)

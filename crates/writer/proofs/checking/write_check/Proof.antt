@@ -23,8 +23,11 @@ numbers-finite-requires c κs = search needs
 write-sizes-requires : tie.Need-write-sizes-requires
 write-sizes-requires c κs = search needs
 
+record-of-requires : tie.Need-record-of-requires
+record-of-requires c κs = search needs
+
 job-within-requires : tie.Need-job-within-requires
-job-within-requires c κs = search needs
+job-within-requires c κs = (c .record-of .ensures .1, search needs)
 
 in-order-requires : tie.Need-in-order-requires
 in-order-requires c κs = search needs
@@ -32,18 +35,19 @@ in-order-requires c κs = search needs
 returns : tie.Need-returns
 unfolding writeCheck
 returns c =
-    let a = c .before .before .before .before .before .before .before .before .args in (
+    let a = c .before .before .before .before .before .before .before .before .before .args in (
       rw (
         c .in-order .ensures,
         c .before .job-within .ensures,
-        c .before .before .write-sizes .ensures,
-        c .before .before .before .numbers-finite .ensures .0,
+        c .before .before .record-of .ensures .0,
+        c .before .before .before .write-sizes .ensures,
+        c .before .before .before .before .numbers-finite .ensures .0,
         take-all (length (a .poses .now)) (a .poses .now) (omega arith),
-        c .before .before .before .before .tolerance-good2 .ensures,
-        c .before .before .before .before .before .tolerance-good .ensures,
-        c .before .before .before .before .before .before .cone-good .ensures,
+        c .before .before .before .before .before .tolerance-good2 .ensures,
+        c .before .before .before .before .before .before .tolerance-good .ensures,
+        c .before .before .before .before .before .before .before .cone-good .ensures,
       ),
-      λ e. c .before .before .before .numbers-finite .ensures .1 (order-passed _ _ _ _ _ _ _ _ (sym (c .in-order .ensures) ∙ e) .finite),
+      λ e. c .before .before .before .before .numbers-finite .ensures .1 (order-passed _ _ _ _ _ _ _ _ (sym (c .in-order .ensures) ∙ e) .finite),
     )
 
 pub write-check-spec : {M : Type 1} → statement M
@@ -55,6 +59,7 @@ write-check-spec =
     tolerance-good-requires-2
     numbers-finite-requires
     write-sizes-requires
+    record-of-requires
     job-within-requires
     in-order-requires
     returns)

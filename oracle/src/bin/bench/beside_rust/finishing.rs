@@ -222,6 +222,7 @@ fn chain(carriers: [u8; 2]) -> Chain {
             rotary(b'C', carriers[1], [0.0, 0.0, 1.0]),
         ],
         spindle: [0.0, 0.0, 1.0],
+        ..Chain::default()
     };
     (chain.rotaries[0].limited, chain.rotaries[0].limits) = (1, [-120.0, 120.0]);
     chain

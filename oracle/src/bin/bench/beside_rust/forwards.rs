@@ -49,6 +49,28 @@ pub fn section() -> Section {
     }
 }
 
+/// From chains with rest angles, beside the same calls without.
+pub fn rested() -> Section {
+    let joints = joint_sets(COUNT, &mut Random::new(4));
+    let row = |(words, carriers)| {
+        let plain = chain(carriers);
+        let mut resting = Chain {
+            rested: true,
+            ..plain
+        };
+        resting.rotaries[0].rest = 30.0;
+        let (long, short) = (exported(&resting, &joints), exported(&plain, &joints));
+        let [long, short] = of_both(CALLS, joints.len(), long, short);
+        Row::new("forward", words, joints.len(), long, short).asked("1.1")
+    };
+    Section {
+        title: "Forward from chains with rest angles",
+        unit: "Best of 200 rounds over 4,096 joint sets, ns a call:",
+        other: "without",
+        rows: MACHINES.map(row).to_vec(),
+    }
+}
+
 pub fn grown() -> Vec<Row> {
     let (words, carriers) = TWO_TABLES;
     let row = |count| {
@@ -92,6 +114,7 @@ pub fn chain(carriers: &[u8]) -> Chain {
             rotary(b'C', carriers[carriers.len() - 1], [0.0, 0.0, 1.0]),
         ],
         spindle: [0.0, 0.0, 1.0],
+        ..Chain::default()
     }
 }
 

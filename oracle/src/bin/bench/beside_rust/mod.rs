@@ -19,7 +19,11 @@ static HEAP: heap::Counting = heap::Counting;
 
 /// All but the growth is shown.
 pub fn timed() -> (Vec<Section>, Vec<Row>) {
-    let mut sections = vec![forwards::section(), inverses::section()];
+    let mut sections = vec![
+        forwards::section(),
+        forwards::rested(),
+        inverses::section(),
+    ];
     sections.extend(paths::sections());
     for section in &sections {
         show(&section.table());
