@@ -117,7 +117,8 @@ enum {
     MAZTUBEL_ANGLE_TOO_LARGE = 26,
     /* a division must insert at most 10,000 poses */
     MAZTUBEL_TOO_MANY_INSERTIONS = 27,
-    /* the outputs must have space for every pose, and for the job that is written */
+    /* the outputs must have space for every pose, and for the job that is written, and the scratch of a quotation for
+     * 10,000 joint sets and tips */
     MAZTUBEL_NO_SPACE = 28,
     /* the bytes of a chain, a job or a model must have the form of docs/FORMAT.md */
     MAZTUBEL_MALFORMED = 29,
@@ -429,6 +430,39 @@ uint32_t maztubel_solve_and_divide(const uint8_t *chain, size_t chain_length, co
                                    const double *start, size_t start_length, double cone, double chord, double axis,
                                    double *out_poses, size_t out_poses_length, double *out_joints, size_t out_joints_length,
                                    uint64_t *inserted, uint64_t *at, uint8_t *letter);
+
+/* ---- Quotation
+ *
+ * The figures of a division before the path exists: what maztubel_subdivide_path inserts for the same arguments, with
+ * space for it, exactly; and 27 for exactly the same arguments. No path is written.
+ *
+ *   poses, joints, chord, axis  as in maztubel_subdivide_path
+ *   scratch_joints  working space for 10,000 joint sets of 5 doubles: at least 50,000 doubles, whole sets
+ *   scratch_tips    the same for their tips, 3 doubles each: at least 30,000 doubles, whole tips
+ *   inserted        output of every call: the number of poses inserted; with 27 10,000; with any other refusal 0
+ *   poses_out       output of every call: the number of poses of the divided path; with a refusal 0
+ *   evaluations     output of every call: the number of forward evaluations; with a refusal 0. Each two poses that
+ *                   ever are neighbours are tested once. A test counts three evaluations, or none where no joint
+ *                   differs by more than 1e-12, and each insertion counts one
+ *
+ * What the scratch holds before the call does not matter. Refusals that keep it, in this order:
+ *   20      no whole records, of the scratch too
+ *   29      the chain's bytes
+ *   19      a tolerance
+ *   20      not one joint set for each pose
+ *   3 to 9  the chain
+ *   30      the two rotaries are parallel, also for a path without poses
+ *   16      a number of a pose or a joint set is not finite
+ *   17      a pivot or a tip is above 100,000 mm in size, a position above 10,000,000 mm, an angle above 36,000
+ *           degrees, or there are more than 100,000 poses
+ * Every other answer leaves +0.0 in the whole scratch, these refusals too:
+ *   28      a scratch is shorter than that, also for a path without poses
+ *   27      an insertion would be the 10,001st */
+uint32_t maztubel_quote(const uint8_t *chain, size_t chain_length, const double *poses, size_t poses_length,
+                        const double *joints, size_t joints_length, double chord, double axis,
+                        double *scratch_joints, size_t scratch_joints_length, double *scratch_tips,
+                        size_t scratch_tips_length, uint64_t *inserted, uint64_t *poses_out, uint64_t *evaluations,
+                        uint64_t *at, uint8_t *letter);
 
 /* ---- Jobs
  *

@@ -19,6 +19,12 @@ const TURN: &str = "    let theta = angle_deg.to_radians();
 const PORTED_TURN: &str = "    let (sin, cos) = angle_deg.ported_turn();
 ";
 
+/// In `counted`, which else is `ported`, each call of `forward` counts.
+const FORWARD: &str = "    pub fn forward(&self, joints: &Joints, tool_length: f64) -> Result<ToolPose> {
+";
+const COUNTED_FORWARD: &str = "        crate::EVALUATED.with(|count| count.set(count.get() + 1));
+";
+
 /// How many other lines of kinematics.rs have such a call.
 const LINES_WITH_CALLS: usize = 8;
 
@@ -167,6 +173,7 @@ fn main() {
         let out = PathBuf::from(env::var_os("OUT_DIR").expect("cargo sets OUT_DIR"));
         copy("untouched", &sources, &out, str::to_owned);
         copy("ported", &sources, &out, ported);
+        copy("counted", &sources, &out, counted);
         println!("cargo::rustc-cfg=original");
     }
 }
@@ -221,4 +228,10 @@ fn ported(text: &str) -> String {
         text.replace(call, &call.replacen('.', ".ported_", 1))
     });
     text + "\nuse crate::Ported as _;\n"
+}
+
+fn counted(text: &str) -> String {
+    let places = text.matches(FORWARD).count();
+    assert_eq!(places, 1, "places of kinematics.rs where forward begins");
+    ported(text).replace(FORWARD, &[FORWARD, COUNTED_FORWARD].concat())
 }

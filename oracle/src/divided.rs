@@ -4,6 +4,7 @@
 //! space (28), each in its place; and document 02's R-3 parallel rotaries (30), which the Rust serves.
 
 use crate::calls::{self, GUARD, Guarded, LENT, LENT_AT, LENT_LETTER};
+use crate::chains::Chain;
 use crate::divisions::{Division, From, Rooms};
 use crate::inverse_calls::LENT_COUNT;
 use crate::maztubel::{self, Course, Lent, Solved};
@@ -58,7 +59,7 @@ pub enum Verdict {
 }
 
 impl Refusal {
-    fn keeping(number: u32, at: u64) -> Self {
+    pub fn keeping(number: u32, at: u64) -> Self {
         Refusal {
             number,
             at,
@@ -69,7 +70,7 @@ impl Refusal {
         }
     }
 
-    fn clearing(number: u32, inserted: usize) -> Self {
+    pub fn clearing(number: u32, inserted: usize) -> Self {
         Refusal {
             inserted,
             clears: true,
@@ -112,6 +113,16 @@ pub fn expected(division: &Division) -> Verdict {
 
 /// Division alone.
 fn of_joints(division: &Division, joints: &[f64]) -> Result<Verdict, Refusal> {
+    let chain = checked(division, joints)?;
+    Ok(Verdict::Judged {
+        given: division.given(),
+        short: Refusal::clearing(28, 0),
+        then: halved(&ported::setup(&chain), division, joints),
+    })
+}
+
+/// The chain of a division of given joints that passes every check before its space.
+pub fn checked(division: &Division, joints: &[f64]) -> Result<Chain, Refusal> {
     let poses = &division.poses;
     if !poses.len().is_multiple_of(POSE) || !joints.len().is_multiple_of(JOINTS) {
         return Err(Refusal::keeping(20, 0));
@@ -147,11 +158,7 @@ fn of_joints(division: &Division, joints: &[f64]) -> Result<Verdict, Refusal> {
     if far || !chain_fits(&chain) || !joints.chunks(JOINTS).all(joints_fit) || given > MOST_POSES {
         return Err(Refusal::keeping(17, 0));
     }
-    Ok(Verdict::Judged {
-        given,
-        short: Refusal::clearing(28, 0),
-        then: halved(&setup, division, joints),
-    })
+    Ok(chain)
 }
 
 /// Both. What solve_path refuses and keeps comes before its own space, and so before that of both.

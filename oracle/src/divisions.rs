@@ -83,6 +83,11 @@ impl Division {
         self.poses.len() / POSE
     }
 
+    /// Whether its joints are given.
+    pub fn is_given(&self) -> bool {
+        matches!(self.from, From::Joints(_))
+    }
+
     fn damage(&mut self, random: &mut Random) {
         match random.below(20) {
             0..=5 => self.damage_chain(random),

@@ -64,6 +64,10 @@ pub mod posted;
 pub mod probe;
 #[cfg(original)]
 pub mod program;
+#[cfg(original)]
+pub mod quote_tally;
+#[cfg(original)]
+pub mod quotes;
 pub mod random;
 pub mod reading;
 #[cfg(original)]
@@ -77,6 +81,8 @@ pub mod replayed_extremes;
 pub mod replayed_functions;
 #[cfg(original)]
 pub mod replayed_jobs;
+#[cfg(original)]
+pub mod replayed_quotes;
 #[cfg(original)]
 pub mod rust;
 #[cfg(original)]

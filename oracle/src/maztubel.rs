@@ -292,6 +292,41 @@ pub fn subdivide_path(solved: Solved, tolerances: [f64; 2], lent: Lent) -> u32 {
     }
 }
 
+/// What a quotation is lent to work in, and for its figures.
+pub struct Scratch<'a> {
+    pub joints: &'a mut [f64],
+    pub tips: &'a mut [f64],
+    pub inserted: &'a mut u64,
+    pub poses: &'a mut u64,
+    pub evaluations: &'a mut u64,
+    pub at: &'a mut u64,
+    pub letter: &'a mut u8,
+}
+
+pub fn quote(solved: Solved, [chord, axis]: [f64; 2], scratch: Scratch) -> u32 {
+    unsafe {
+        maztubel_quote(
+            solved.chain.as_ptr(),
+            solved.chain.len(),
+            solved.poses.as_ptr(),
+            solved.poses.len(),
+            solved.joints.as_ptr(),
+            solved.joints.len(),
+            chord,
+            axis,
+            scratch.joints.as_mut_ptr(),
+            scratch.joints.len(),
+            scratch.tips.as_mut_ptr(),
+            scratch.tips.len(),
+            scratch.inserted,
+            scratch.poses,
+            scratch.evaluations,
+            scratch.at,
+            scratch.letter,
+        )
+    }
+}
+
 pub fn solve_and_divide(course: Course, tolerances: [f64; 2], lent: Lent) -> u32 {
     unsafe {
         maztubel_solve_and_divide(

@@ -1,10 +1,16 @@
-//! The Rust that is compared, built as it stands twice: `untouched`, and `ported`, in which the calls of `sin_cos`, `sin`,
+//! The Rust that is compared, built as it stands three times: `untouched`, `ported`, in which the calls of `sin_cos`, `sin`,
 //! `acos` and `atan2` in kinematics.rs go to the exports, `rotate_vector` takes the pair of its degrees from the port, and nothing
-//! else changes. The build script writes both, and puts behind
+//! else changes, and `counted`, which is `ported` with a count of the calls of `forward`. The build script writes all, and puts behind
 //! each a constructor of limits that are not checked.
 
 use crate::{maztubel, probe};
+use std::cell::Cell;
 use std::fmt;
+
+thread_local! {
+    /// How often `forward` of `counted` was called in this thread.
+    pub static EVALUATED: Cell<u64> = const { Cell::new(0) };
+}
 
 /// What the files take from the crate's root.
 pub type Result<T> = std::result::Result<T, IrError>;
@@ -34,6 +40,12 @@ pub mod untouched {
 pub mod ported {
     pub use super::{IrError, Ported, Result};
     include!(concat!(env!("OUT_DIR"), "/ported/modules.rs"));
+}
+
+#[allow(dead_code, clippy::type_complexity)]
+pub mod counted {
+    pub use super::{EVALUATED, IrError, Ported, Result};
+    include!(concat!(env!("OUT_DIR"), "/counted/modules.rs"));
 }
 
 /// The exports under the names that `ported` calls. Where an export refuses there is no number: a nan.

@@ -12,12 +12,13 @@ const MOST_BYTES: usize = 65_600;
 const MOST_NUMBERS: usize = 128;
 
 /// How many numbers a case is lent at most, that lines stay short; and with 27, which wants space for 10,000 poses more
-/// than the two that are given, as many as the program has. They are +0.0 then, and a line counts them.
+/// than the two that are given, and in a quotation, as many as the program has. They are one number throughout then, and a
+/// line counts them.
 const MOST_ROOMS: [usize; 2] = [256, 128];
-const ROOMS_OF_27: [usize; 2] = [60_012, 50_010];
+const LONG_ROOMS: [usize; 2] = [60_012, 50_010];
 
 /// Every entry, by its number in a case.
-pub const ENTRIES: [&str; 21] = [
+pub const ENTRIES: [&str; 22] = [
     "check_chain",
     "forward",
     "check_model",
@@ -39,6 +40,7 @@ pub const ENTRIES: [&str; 21] = [
     "build_extremes",
     "replace_joints",
     "first_above",
+    "quote",
 ];
 
 /// What a call is given: the choice or the rotary; the bytes of a chain or of a job; a name, a model and a carrier; two slices of
@@ -53,10 +55,10 @@ pub struct Given<'a> {
 }
 
 impl Given<'_> {
-    fn fits(&self, number: u32) -> bool {
+    fn fits(&self, entry: usize, number: u32) -> bool {
         let fit = |numbers: &&[f64]| numbers.len() <= MOST_NUMBERS;
-        let most = match number {
-            27 => ROOMS_OF_27,
+        let most = match (ENTRIES[entry], number) {
+            ("quote", _) | (_, 27) => LONG_ROOMS,
             _ => MOST_ROOMS,
         };
         let [first, second] = [0, 1].map(|i| self.rooms[i] <= most[i]);
@@ -92,7 +94,7 @@ impl Replayed {
         case.extend(given.bytes);
         let length = u32::try_from(case.len()).ok()?.to_le_bytes();
         let bytes = [&length[..], &case].concat();
-        let fits = given.fits(number) && case.len() <= MOST_BYTES;
+        let fits = given.fits(entry, number) && case.len() <= MOST_BYTES;
         let line = text + "\n";
         fits.then_some(Replayed {
             number,

@@ -1,5 +1,5 @@
 //! The Rust on plain numbers: a chain and links, as read from their bytes, become its structs, and its answers become numbers
-//! again. Once for each of its two builds, whose types are not the same.
+//! again. Once for each of its three builds, whose types are not the same.
 //!
 //! Names are bytes here and texts there. The Rust asks of a name only whether it is empty, how long it is and whether it is equal
 //! to another, so each has a stand-in of which all three are the same, and which a refusal's words can quote without harm.
@@ -277,5 +277,6 @@ macro_rules! on_plain_numbers {
     };
 }
 
+on_plain_numbers!(counted);
 on_plain_numbers!(ported);
 on_plain_numbers!(untouched);

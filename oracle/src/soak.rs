@@ -8,6 +8,7 @@ use crate::inverse_tally::Tally as Inverses;
 use crate::job_tally::JobTally;
 use crate::met::Account;
 use crate::parts::Outcome;
+use crate::quote_tally::Quotes;
 use crate::random::Random;
 use crate::tally::Tally as Chains;
 use crate::wave_tally::Waves;
@@ -25,6 +26,7 @@ pub struct Soak {
     inverses: Inverses,
     paths: Ways,
     divisions: Insertions,
+    quotes: Quotes,
     jobs: JobTally,
     writes: WriteTally,
     extremes: Extremes,
@@ -33,7 +35,7 @@ pub struct Soak {
 type Part = fn(&mut Soak, &mut Random);
 
 /// Of the parts six divide, half of the time each of the two entries, and three solve paths: their calls take longest.
-const ROUND: [Part; 22] = [
+const ROUND: [Part; 23] = [
     Soak::waves,
     Soak::chains,
     Soak::inverses,
@@ -56,16 +58,18 @@ const ROUND: [Part; 22] = [
     Soak::jobs,
     Soak::writes,
     Soak::extremes,
+    Soak::quotes,
 ];
 
 /// One round in so many, the second of them first, has the cases that take longer.
 const ROUNDS: u64 = 32;
-const LONG: [Part; 5] = [
+const LONG: [Part; 6] = [
     Soak::long_paths,
     Soak::exact_divisions,
     Soak::long_divisions,
     Soak::short_jobs,
     Soak::long_extremes,
+    Soak::exact_quotes,
 ];
 
 impl Outcome for Soak {
@@ -75,6 +79,7 @@ impl Outcome for Soak {
         self.inverses.add(more.inverses);
         self.paths.add(more.paths);
         self.divisions.add(more.divisions);
+        self.quotes.add(more.quotes);
         self.jobs.add(more.jobs);
         self.writes.add(more.writes);
         self.extremes.add(more.extremes);
@@ -130,6 +135,10 @@ impl Soak {
         self.extremes.compare_drawn(600, random);
     }
 
+    fn quotes(&mut self, random: &mut Random) {
+        self.quotes.compare_drawn(400, random);
+    }
+
     fn long_paths(&mut self, random: &mut Random) {
         self.paths.compare_long(random);
     }
@@ -146,11 +155,16 @@ impl Soak {
         self.jobs.compare_each_change(random);
     }
 
+    fn exact_quotes(&mut self, random: &mut Random) {
+        self.quotes.compare_exact(random);
+        self.quotes.compare_others(random);
+    }
+
     fn long_extremes(&mut self, random: &mut Random) {
         self.extremes.compare_long(random);
     }
 
-    fn families(&self) -> [&dyn Account; 8] {
+    fn families(&self) -> [&dyn Account; 9] {
         let Soak {
             waves,
             chains,
@@ -160,9 +174,10 @@ impl Soak {
             jobs,
             writes,
             extremes,
+            quotes,
         } = self;
         [
-            waves, chains, inverses, paths, divisions, jobs, writes, extremes,
+            waves, chains, inverses, paths, divisions, jobs, writes, extremes, quotes,
         ]
     }
 

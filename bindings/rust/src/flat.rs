@@ -541,6 +541,53 @@ pub fn solve_and_divide(
     told
 }
 
+/// The figures of the division of given poses with their joints, with no path written: how many poses are inserted, which also is
+/// the count that is told, how many there are then, and how many forward evaluations its tests and insertions count. With a refusal
+/// the figures are 0, but for the count so far at 27. Scratch for 10,000 joint sets of 5 numbers and as many tips of 3 is lent: less
+/// is 28. The checks' refusals keep it, every other answer leaves +0.0 in all of it.
+///
+/// ```
+/// use maztubel::flat;
+/// let (mut poses, mut evaluations) = (9, 9);
+/// let told = flat::quote(&[0], &[], &[], 1.0, 0.0, &mut [], &mut [], &mut poses, &mut evaluations);
+/// assert_eq!((told.number, poses, evaluations), (19, 0, 0));
+/// ```
+pub fn quote(
+    chain: &[u8],
+    poses: &[f64],
+    joints: &[f64],
+    chord: f64,
+    axis: f64,
+    scratch_joints: &mut [f64],
+    scratch_tips: &mut [f64],
+    poses_out: &mut u64,
+    evaluations: &mut u64,
+) -> Told {
+    let mut told = Told::default();
+    told.number = unsafe {
+        maztubel_quote(
+            chain.as_ptr(),
+            chain.len(),
+            poses.as_ptr(),
+            poses.len(),
+            joints.as_ptr(),
+            joints.len(),
+            chord,
+            axis,
+            scratch_joints.as_mut_ptr(),
+            scratch_joints.len(),
+            scratch_tips.as_mut_ptr(),
+            scratch_tips.len(),
+            &mut told.count,
+            poses_out,
+            evaluations,
+            &mut told.at,
+            &mut told.letter,
+        )
+    };
+    told
+}
+
 /// Where a job has its chain and its poses, and what its trailer says else. A refusal keeps the parts.
 ///
 /// ```

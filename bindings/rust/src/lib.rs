@@ -44,6 +44,7 @@ mod job;
 mod model;
 mod path;
 mod pose;
+mod quote;
 #[allow(unsafe_code, missing_docs)]
 pub mod raw;
 mod refusal;
@@ -59,6 +60,7 @@ pub use path::{
     solve_and_divide_into, solve_path, solve_path_into, subdivide_path, subdivide_path_into,
 };
 pub use pose::{Joints, Pose};
+pub use quote::{Quotation, quote, quote_into};
 pub use refusal::{Place, Reason, Refusal};
 pub use trig::{
     arccosine, arccosines, arccosines_into, arctangent, arctangents, arctangents_into, cosine,

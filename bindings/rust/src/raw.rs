@@ -167,6 +167,25 @@ unsafe extern "C" {
         at: &mut u64,
         letter: &mut u8,
     ) -> u32;
+    pub fn maztubel_quote(
+        chain: *const u8,
+        chain_length: usize,
+        poses: *const f64,
+        poses_length: usize,
+        joints: *const f64,
+        joints_length: usize,
+        chord: f64,
+        axis: f64,
+        scratch_joints: *mut f64,
+        scratch_joints_length: usize,
+        scratch_tips: *mut f64,
+        scratch_tips_length: usize,
+        inserted: &mut u64,
+        poses_out: &mut u64,
+        evaluations: &mut u64,
+        at: &mut u64,
+        letter: &mut u8,
+    ) -> u32;
     pub fn maztubel_read_job(
         job: *const u8,
         job_length: usize,

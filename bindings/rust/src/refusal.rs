@@ -106,7 +106,9 @@ reasons! {
     PoseUnreachable = 25, "a pose's tool axis must have a direction that the rotaries reach";
     AngleTooLarge = 26, "a pose's angles must be at most 36,000 degrees in size";
     TooManyInsertions = 27, "a division must insert at most 10,000 poses";
-    NoSpace = 28, "the outputs must have space for every pose, and for the job that is written";
+    NoSpace = 28,
+        "the outputs must have space for every pose, and for the job that is written, and the scratch of a quotation for \
+         10,000 joint sets and tips";
     Malformed = 29, "the bytes of a chain, a job or a model must have the form of docs/FORMAT.md";
     ParallelRotaries = 30,
         "on a path two rotaries must not be parallel: the cross product of their unit axes must have a length of at \

@@ -65,6 +65,18 @@ const OF_A_CHAIN: [OfAChain; 12] = [
         let (poses, joints) = (&mut [0.0; 6], &mut [0.0; 5]);
         flat::subdivide_path(chain, &POSE, &JOINTS, 1.0, 1.0, poses, joints)
     }),
+    ("quote", |chain| {
+        let mut scratch = vec![9.0; 80_000];
+        let (joints, tips) = scratch.split_at_mut(50_000);
+        let [mut poses, mut evaluations] = [9; 2];
+        let (out, count) = (&mut poses, &mut evaluations);
+        let told = flat::quote(chain, &POSE, &JOINTS, 1.0, 1.0, joints, tips, out, count);
+        assert_eq!(poses, u64::from(told.number == 0));
+        assert_eq!(evaluations, 0);
+        let after = if told.number == 0 { 0.0 } else { 9.0 };
+        assert!(scratch.iter().all(|number| *number == after));
+        told
+    }),
     ("solve_and_divide", |chain| {
         let (poses, joints) = (&mut [0.0; 6], &mut [0.0; 5]);
         flat::solve_and_divide(chain, &POSE, &[], 1.0, 1.0, 1.0, poses, joints)

@@ -263,6 +263,45 @@ fn of_subdivide_path() {
     every_length(&read, &[90, 75], ask, &whole);
 }
 
+/// Scratches of so few numbers are 28 once their records are whole, and then +0.0.
+#[test]
+fn of_quote() {
+    let chain = tables().bytes();
+    let read = [
+        pose_numbers(&arc(2)),
+        vec![0.0, 0.0, 50.0, 0.0, 0.0, 1.0, 0.0, 50.0, 10.0, 0.0],
+    ];
+    let whole = |l: &[usize]| {
+        l[0].is_multiple_of(6)
+            && l[1].is_multiple_of(5)
+            && l[0] / 6 == l[1] / 5
+            && l[2].is_multiple_of(5)
+            && l[3].is_multiple_of(3)
+    };
+    let ask: Ask = &|r, w| {
+        let [joints, tips] = w else { unreachable!() };
+        let (mut poses, mut evaluations) = (9, 9);
+        let told = flat::quote(
+            &chain,
+            r[0],
+            r[1],
+            0.01,
+            1.0,
+            joints,
+            tips,
+            &mut poses,
+            &mut evaluations,
+        );
+        assert!(matches!(told.number, 20 | 28));
+        assert_eq!((told.count, poses, evaluations), (0, 0, 0));
+        let after = if told.number == 28 { 0.0 } else { BEFORE };
+        let mut scratch = joints.iter().chain(&**tips);
+        assert!(scratch.all(|number| number.to_bits() == after.to_bits()));
+        told
+    };
+    every_length(&read, &[25, 15], ask, &whole);
+}
+
 #[test]
 fn of_solve_and_divide() {
     let chain = tables().bytes();

@@ -6,6 +6,7 @@ mod subdividing;
 
 pub use both::solve_and_divide;
 pub use both::three_whole;
+pub use checking::division_check;
 pub use checking::four_whole;
 pub use checking::numbers_finite;
 pub use checking::tips_within;

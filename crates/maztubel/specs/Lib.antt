@@ -5,6 +5,7 @@ pub mod LinkEntries
 pub mod InverseEntries
 pub mod PathEntries
 pub mod DivideEntries
+pub mod QuoteEntries
 pub mod JobEntries
 pub mod WriteEntries
 pub mod ExtremesEntries

@@ -3,9 +3,9 @@
 //
 // Sine, cosine, arctangent and arccosine, of one argument and of slices. A slice form tests every argument before it writes the
 // first answer, so that a refusal leaves the slice as it was. The entries of a chain stand in chain_entries, those of the inverse map
-// in inverse_entries, those of a model in link_entries, that of a path in path_entries, those that divide in divide_entries, those of
-// a job in job_entries, the one that writes a job in write_entries, those of the extremes beside a path in extremes_entries; a crate
-// above calls all of them from here.
+// in inverse_entries, those of a model in link_entries, that of a path in path_entries, those that divide in divide_entries, the one
+// that quotes a division in quote_entries, those of a job in job_entries, the one that writes a job in write_entries, those of the
+// extremes beside a path in extremes_entries; a crate above calls all of them from here.
 mod chain_entries;
 mod divide_entries;
 mod extremes_entries;
@@ -14,6 +14,7 @@ mod job_entries;
 mod lent;
 mod link_entries;
 mod path_entries;
+mod quote_entries;
 mod write_entries;
 
 pub use chain_entries::maztubel_check_chain;
@@ -32,6 +33,7 @@ pub use link_entries::maztubel_check_model;
 pub use link_entries::maztubel_link_in_part;
 pub use link_entries::maztubel_link_world;
 pub use path_entries::maztubel_solve_path;
+pub use quote_entries::maztubel_quote;
 pub use write_entries::maztubel_write_job;
 ghost use mathlib.Core.Path.{_≡_};
 ghost use mathlib.Core.Bool.{_&&_};

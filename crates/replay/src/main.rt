@@ -4,6 +4,7 @@ mod cases;
 mod entries;
 mod functions;
 mod paths;
+mod quotes;
 mod summaries;
 mod told;
 
@@ -51,7 +52,7 @@ fn read_case(bytes: &mut [u8]) -> usize
 }
 
 // What is lent holds 7.25 before the call. There is space for 10,000 poses more than two, with which a division can
-// come to 27.
+// come to 27, and for the scratch of a quotation.
 fn replay(case: &[u8]) {
     let mut first = [0.0f64; 128];
     let mut second = [0.0f64; 128];
@@ -93,6 +94,7 @@ fn call(case: &[u8], first: &[f64], second: &[f64], lent: &mut [f64], other: &mu
         18 => summaries::build_extremes(first, lent),
         19 => summaries::replace_joints(case, first, lent, other),
         20 => summaries::first_above(case, first, second),
+        21 => quotes::quote(case, first, second, lent, other),
         _ => told::unknown(),
     }
 }

@@ -30,7 +30,8 @@ mod sample {
     use oracle::random::Random;
     use oracle::replayed::Replayed;
     use oracle::{cases, inverse_cases};
-    use oracle::{replayed_calls, replayed_extremes, replayed_functions, replayed_jobs};
+    use oracle::{replayed_calls, replayed_extremes, replayed_functions};
+    use oracle::{replayed_jobs, replayed_quotes};
     use std::collections::BTreeMap;
     use std::fs;
     use std::path::Path;
@@ -138,6 +139,7 @@ mod sample {
         all.extend(of_functions(sums));
         all.push(of_writer());
         all.extend(of_extremes());
+        all.push(of_quotes());
         all
     }
 
@@ -247,7 +249,12 @@ mod sample {
         ]
     }
 
-    /// Every job of examples/jobs stands before what is drawn, and behind it, once for each call that divides, 27.
+    fn of_quotes<'a>() -> Entry<'a> {
+        let refused = [16, 17, 19, 20, 28, 30];
+        Entry::new("quote", 110, &[&CHAIN, &refused], replayed_quotes::of_quote).longer(6)
+    }
+
+    /// Every job of examples/jobs stands before what is drawn, and behind it, once for each call that divides or quotes, 27.
     pub fn write(folder: &Path) {
         let sums = Sums::default();
         let jobs = replayed_jobs::examples();
@@ -260,6 +267,11 @@ mod sample {
             }
             if DIVIDES.contains(&entry.name) {
                 let case = replayed_calls::of_too_many(entry.name).expect("a short case");
+                assert_eq!(case.number, 27);
+                cases.push(case);
+            }
+            if entry.name == "quote" {
+                let case = replayed_quotes::of_too_many().expect("a short case");
                 assert_eq!(case.number, 27);
                 cases.push(case);
             }

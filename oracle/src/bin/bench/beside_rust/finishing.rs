@@ -4,7 +4,7 @@
 
 use super::forwards::{HEAD, TABLE, rotary};
 use oracle::chains::Chain;
-use oracle::maztubel::{self, Course, Lent, Solved};
+use oracle::maztubel::{self, Course, Lent, Scratch, Solved};
 use oracle::original::untouched::kinematics::{FiveAxisSetup, Joints, ToolPose};
 use oracle::rust::untouched;
 use std::hint::black_box;
@@ -76,7 +76,16 @@ pub const BOTH: Entry = Entry {
 };
 
 impl Case {
-    pub fn new((words, carriers): (&'static str, [u8; 2]), count: usize) -> Self {
+    /// About as many poses are inserted as given, where they may be.
+    pub fn new(machine: (&'static str, [u8; 2]), count: usize) -> Self {
+        Case::inserting(machine, count, count.min(MOST_INSERTED))
+    }
+
+    pub fn inserting(
+        (words, carriers): (&'static str, [u8; 2]),
+        count: usize,
+        wanted: usize,
+    ) -> Self {
         let (chain, poses) = (chain(carriers), poses(count));
         let setup = untouched::setup(&chain);
         let joints = untouched::solve_path(&setup, &poses, &[], CONE);
@@ -89,7 +98,7 @@ impl Case {
             tolerances: [1.0; 2],
             inserted: 0,
         };
-        case.tighten(count.min(MOST_INSERTED));
+        case.tighten(wanted);
         case
     }
 
@@ -172,13 +181,34 @@ impl Case {
         maztubel::solve_path(self.course(), joints, &mut space.at, &mut space.letter)
     }
 
-    fn subdivide(&self, space: &mut Space) -> u32 {
-        let solved = Solved {
+    fn solved(&self) -> Solved<'_> {
+        Solved {
             chain: &self.bytes,
             poses: black_box(&self.poses),
             joints: &self.joints,
+        }
+    }
+
+    pub fn subdivide(&self, space: &mut Space) -> u32 {
+        maztubel::subdivide_path(self.solved(), self.tolerances, space.lent())
+    }
+
+    /// Answers how many poses are inserted.
+    pub fn quote(&self, scratch: &mut [Vec<f64>; 2]) -> usize {
+        let [joints, tips] = scratch;
+        let [mut inserted, mut poses, mut evaluations, mut at] = [0; 4];
+        let scratch = Scratch {
+            joints,
+            tips,
+            inserted: &mut inserted,
+            poses: &mut poses,
+            evaluations: &mut evaluations,
+            at: &mut at,
+            letter: &mut 0,
         };
-        maztubel::subdivide_path(solved, self.tolerances, space.lent())
+        let number = maztubel::quote(self.solved(), self.tolerances, scratch);
+        assert_eq!(number, 0, "a path was refused");
+        inserted as usize
     }
 
     fn solve_and_divide(&self, space: &mut Space) -> u32 {

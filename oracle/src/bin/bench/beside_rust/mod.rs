@@ -8,6 +8,7 @@ mod inverses;
 mod memory;
 mod paths;
 mod program;
+mod quotations;
 mod stack;
 
 use crate::rows::{GROWN, Row, Section};
@@ -25,6 +26,7 @@ pub fn timed() -> (Vec<Section>, Vec<Row>) {
         inverses::section(),
     ];
     sections.extend(paths::sections());
+    sections.push(quotations::section());
     for section in &sections {
         show(&section.table());
     }

@@ -1,0 +1,2 @@
+-- What a halving costs, with the cost of a pair as a parameter.
+pub mod Costing
