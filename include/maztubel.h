@@ -28,7 +28,7 @@
  *
  * Pass valid pointers; every other bad input returns a refusal number.
  *   - A buffer is a pointer and a length. The length counts elements: bytes of a uint8_t buffer, doubles of a double
- *     buffer.
+ *     buffer, whole numbers of a uint64_t buffer.
  *   - A pointer is aligned for its element. NULL is valid for a buffer of length 0, and nowhere else.
  *   - No two buffers or outputs of one call overlap.
  *
@@ -92,15 +92,15 @@ enum {
      * written tool axes too */
     MAZTUBEL_NOT_FINITE = 16,
     /* sizes must be at most 100,000 mm (tip, pivot, tool length), 10,000,000 mm (joint position), 36,000 degrees
-     * (angle, rest angle, hint), 100,000 poses, 65,536 bytes (a job that is written), 800 radians (sine, cosine), 1
-     * (arccosine), and finite (arctangent) */
+     * (angle, rest angle, hint), 100,000 poses, 65,536 bytes (a job that is written), 1,000,000,000 inserted poses
+     * (a balance), 800 radians (sine, cosine), 1 (arccosine), and finite (arctangent) */
     MAZTUBEL_TOO_LARGE = 17,
     /* the cone must be finite, above 0 and at most 10 degrees */
     MAZTUBEL_CONE = 18,
     /* the chord tolerance (mm) and the axis tolerance (degrees) must be finite and above 0 */
     MAZTUBEL_TOLERANCE = 19,
     /* buffers must hold whole records, lengths that belong together must be equal, a choice must be 0, 1 or 2, an index
-     * must be that of a joint set, and the rotary that is asked for must be 0 or 1 */
+     * must be that of a joint set, the rotary that is asked for must be 0 or 1, and there must be 32 balances */
     MAZTUBEL_LENGTHS_DIFFER = 20,
     /* the rotaries must reach the tool axis */
     MAZTUBEL_NOT_REACHABLE = 21,
@@ -124,7 +124,11 @@ enum {
     MAZTUBEL_MALFORMED = 29,
     /* on a path two rotaries must not be parallel: the cross product of their unit axes must have a length of at least
      * 1e-9 */
-    MAZTUBEL_PARALLEL_ROTARIES = 30
+    MAZTUBEL_PARALLEL_ROTARIES = 30,
+    /* a shop must be 0 to 31 */
+    MAZTUBEL_UNKNOWN_SHOP = 34,
+    /* a shop's balance must not be below the count of a division that is charged to it */
+    MAZTUBEL_BALANCE_SHORT = 35
 };
 
 /* ---- Sine, cosine, arctangent, arccosine, in radians */
@@ -607,6 +611,39 @@ uint32_t maztubel_replace_joints(double *joints, size_t joints_length, double *s
  *   17  the angle is above 36,000 degrees in size */
 uint32_t maztubel_first_above(const double *joints, size_t joints_length, const double *summary, size_t summary_length,
                               uint64_t rotary, double angle, uint64_t *found, uint64_t *index);
+
+/* ---- Quotas by shop
+ *
+ * 32 shops, numbered from 0, buy inserted poses in advance. Their balances are 32 whole numbers of the caller's, all 0
+ * at first, and no call keeps anything else. A grant adds to a balance, and a division takes its reported count from
+ * one; nothing else changes a balance, and a call for one shop changes no other's. After any row of these two calls
+ * from balances of 0, refused ones among them, the sum of the amounts that were granted is the sum of the counts that
+ * were charged and of all balances; so it is for each shop alone, and no balance is above 1,000,000,000.
+ *
+ *   balances  32 uint64_t, that of shop 0 first
+ *   shop      0 to 31 */
+
+/* Adds an amount to the balance of a shop; 0 counts too.
+ *
+ * Refusals, all of which keep the balances:
+ *   34  the shop is unknown, whatever the balances
+ *   20  there are not 32 balances
+ *   17  the balance would be above 1,000,000,000 */
+uint32_t maztubel_grant(uint64_t *balances, size_t balances_length, uint64_t shop, uint64_t amount);
+
+/* Divides as maztubel_subdivide_path does, and takes *inserted from the balance of a shop. A refused division is
+ * charged nothing; one that inserts nothing needs no balance.
+ *
+ * Refusals, all of which keep the balances, and both outputs but where they are said to clear them:
+ *   34      the shop is unknown, whatever else is at fault
+ *   20      there are not 32 balances
+ *           the refusals of maztubel_subdivide_path, which keep or clear both outputs as there
+ *   35      the balance is below the number of poses that were inserted; clears both outputs, and *inserted is 0 */
+uint32_t maztubel_divide_for(uint64_t *balances, size_t balances_length, uint64_t shop, const uint8_t *chain,
+                             size_t chain_length, const double *poses, size_t poses_length, const double *joints,
+                             size_t joints_length, double chord, double axis, double *out_poses, size_t out_poses_length,
+                             double *out_joints, size_t out_joints_length, uint64_t *inserted, uint64_t *at,
+                             uint8_t *letter);
 
 #ifdef __cplusplus
 }

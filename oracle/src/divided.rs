@@ -238,6 +238,11 @@ impl fmt::Display for Told {
 
 /// Calls the export.
 pub fn ask(division: &Division, rooms: Rooms) -> Told {
+    lending(rooms, |lent| call(division, lent))
+}
+
+/// What a call tells that is lent such rooms, between guards.
+pub fn lending(rooms: Rooms, call: impl FnOnce(Lent) -> u32) -> Told {
     let lengths = rooms.map(|room| GUARD + room + GUARD);
     let mut numbers = vec![f64::from_bits(LENT); lengths[0] + lengths[1]];
     let (poses, joints) = numbers.split_at_mut(lengths[0]);
@@ -249,7 +254,7 @@ pub fn ask(division: &Division, rooms: Rooms) -> Told {
         at: &mut at[1],
         letter: &mut letter[1],
     };
-    let number = call(division, lent);
+    let number = call(lent);
     let told = calls::Told {
         number,
         at,

@@ -68,6 +68,10 @@ pub mod program;
 pub mod quote_tally;
 #[cfg(original)]
 pub mod quotes;
+#[cfg(original)]
+pub mod quota_tally;
+#[cfg(original)]
+pub mod quotas;
 pub mod random;
 pub mod reading;
 #[cfg(original)]
@@ -83,6 +87,8 @@ pub mod replayed_functions;
 pub mod replayed_jobs;
 #[cfg(original)]
 pub mod replayed_quotes;
+#[cfg(original)]
+pub mod replayed_quotas;
 #[cfg(original)]
 pub mod rust;
 #[cfg(original)]

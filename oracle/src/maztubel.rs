@@ -477,3 +477,38 @@ pub fn first_above(
         )
     }
 }
+
+pub fn grant(balances: &mut [u64], shop: u64, amount: u64) -> u32 {
+    unsafe { maztubel_grant(balances.as_mut_ptr(), balances.len(), shop, amount) }
+}
+
+pub fn divide_for(
+    balances: &mut [u64],
+    shop: u64,
+    solved: Solved,
+    tolerances: [f64; 2],
+    lent: Lent,
+) -> u32 {
+    unsafe {
+        maztubel_divide_for(
+            balances.as_mut_ptr(),
+            balances.len(),
+            shop,
+            solved.chain.as_ptr(),
+            solved.chain.len(),
+            solved.poses.as_ptr(),
+            solved.poses.len(),
+            solved.joints.as_ptr(),
+            solved.joints.len(),
+            tolerances[0],
+            tolerances[1],
+            lent.poses.as_mut_ptr(),
+            lent.poses.len(),
+            lent.joints.as_mut_ptr(),
+            lent.joints.len(),
+            lent.inserted,
+            lent.at,
+            lent.letter,
+        )
+    }
+}

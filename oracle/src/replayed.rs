@@ -18,7 +18,7 @@ const MOST_ROOMS: [usize; 2] = [256, 128];
 const LONG_ROOMS: [usize; 2] = [60_012, 50_010];
 
 /// Every entry, by its number in a case.
-pub const ENTRIES: [&str; 22] = [
+pub const ENTRIES: [&str; 24] = [
     "check_chain",
     "forward",
     "check_model",
@@ -41,6 +41,8 @@ pub const ENTRIES: [&str; 22] = [
     "replace_joints",
     "first_above",
     "quote",
+    "grant",
+    "divide_for",
 ];
 
 /// What a call is given: the choice or the rotary; the bytes of a chain or of a job; a name, a model and a carrier; two slices of
@@ -139,6 +141,11 @@ impl Line {
     pub fn words(mut self, words: &str) -> Self {
         self.text += words;
         self
+    }
+
+    pub fn whole_numbers(mut self, numbers: &[u64]) -> Self {
+        self.text += " :";
+        numbers.iter().fold(self, |line, &n| line.count(n))
     }
 
     /// The numbers up to the last that differs from the one behind it, and that one with how often it stands there.

@@ -146,14 +146,19 @@ pub fn of_too_many(entry: &str) -> Option<Replayed> {
     } else {
         both
     };
-    let records = division.given() + MOST_INSERTED;
-    let rooms = [POSE * records, JOINTS * records];
+    let rooms = roomy(&division);
     of_rooms(
         entry,
         &division,
         divided::expected(&division).with(rooms),
         rooms,
     )
+}
+
+/// Space for as many insertions as may be.
+pub fn roomy(division: &Division) -> Rooms {
+    let records = division.given() + MOST_INSERTED;
+    [POSE * records, JOINTS * records]
 }
 
 /// so many divisions of given joints, each followed by a looser one with the same space and by its own result,
@@ -222,7 +227,7 @@ fn of_rooms(entry: &str, division: &Division, answer: Answer, rooms: Rooms) -> O
 }
 
 /// Poses and joints, each between guards of its own.
-fn lent_twice(bits: &[u64], [poses, _]: Rooms) -> [Vec<f64>; 2] {
+pub fn lent_twice(bits: &[u64], [poses, _]: Rooms) -> [Vec<f64>; 2] {
     let (poses, joints) = bits.split_at(GUARD + poses + GUARD);
     [lent(poses), lent(joints)]
 }

@@ -9,6 +9,7 @@ use crate::job_tally::JobTally;
 use crate::met::Account;
 use crate::parts::Outcome;
 use crate::quote_tally::Quotes;
+use crate::quota_tally::Quotas;
 use crate::random::Random;
 use crate::tally::Tally as Chains;
 use crate::wave_tally::Waves;
@@ -30,6 +31,7 @@ pub struct Soak {
     jobs: JobTally,
     writes: WriteTally,
     extremes: Extremes,
+    quotas: Quotas,
 }
 
 type Part = fn(&mut Soak, &mut Random);
@@ -59,6 +61,7 @@ const ROUND: [Part; 23] = [
     Soak::writes,
     Soak::extremes,
     Soak::quotes,
+    Soak::quotas,
 ];
 
 /// One round in so many, the second of them first, has the cases that take longer.
@@ -70,6 +73,7 @@ const LONG: [Part; 6] = [
     Soak::short_jobs,
     Soak::long_extremes,
     Soak::exact_quotes,
+    Soak::many_quotas,
 ];
 
 impl Outcome for Soak {
@@ -83,6 +87,7 @@ impl Outcome for Soak {
         self.jobs.add(more.jobs);
         self.writes.add(more.writes);
         self.extremes.add(more.extremes);
+        self.quotas.add(more.quotas);
     }
 }
 
@@ -139,6 +144,10 @@ impl Soak {
         self.quotes.compare_drawn(400, random);
     }
 
+    fn quotas(&mut self, random: &mut Random) {
+        self.quotas.compare_drawn(40, random);
+    }
+
     fn long_paths(&mut self, random: &mut Random) {
         self.paths.compare_long(random);
     }
@@ -164,7 +173,11 @@ impl Soak {
         self.extremes.compare_long(random);
     }
 
-    fn families(&self) -> [&dyn Account; 9] {
+    fn many_quotas(&mut self, random: &mut Random) {
+        self.quotas.compare_many(random);
+    }
+
+    fn families(&self) -> [&dyn Account; 10] {
         let Soak {
             waves,
             chains,
@@ -175,9 +188,10 @@ impl Soak {
             writes,
             extremes,
             quotes,
+            quotas,
         } = self;
         [
-            waves, chains, inverses, paths, divisions, jobs, writes, extremes, quotes,
+            waves, chains, inverses, paths, divisions, jobs, writes, extremes, quotes, quotas,
         ]
     }
 

@@ -789,3 +789,72 @@ pub fn first_above(
         ..Told::default()
     }
 }
+
+/// Adds to the balance of a shop: 34 for a shop other than 0 to 31, 20 for other than 32 balances, 17 where the balance would be above
+/// 1,000,000,000. A refusal keeps the balances.
+///
+/// ```
+/// use maztubel::flat;
+/// let mut balances = [0; 32];
+/// assert_eq!(flat::grant(&mut balances, 32, 1).number, 34);
+/// assert_eq!(flat::grant(&mut balances[..31], 0, 1).number, 20);
+/// assert_eq!(flat::grant(&mut balances, 31, 1_000_000_001).number, 17);
+/// assert_eq!(flat::grant(&mut balances, 31, 1_000_000_000).number, 0);
+/// assert_eq!(balances[31], 1_000_000_000);
+/// ```
+pub fn grant(balances: &mut [u64], shop: u64, amount: u64) -> Told {
+    let number = unsafe { maztubel_grant(balances.as_mut_ptr(), balances.len(), shop, amount) };
+    Told {
+        number,
+        ..Told::default()
+    }
+}
+
+/// As [`subdivide_path`], charged to a shop: the count is taken from its balance. 34 for a shop other than 0 to 31 and 20 for other than
+/// 32 balances stand before all of its refusals and keep both outputs; 35 for a balance below the count stands behind them and leaves
+/// both +0.0. A refusal keeps the balances.
+///
+/// ```
+/// use maztubel::flat;
+/// let mut balances = [0; 32];
+/// let told = flat::divide_for(&mut balances, 32, &[0], &[], &[], 1.0, 0.0, &mut [], &mut []);
+/// assert_eq!(told.number, 34);
+/// let told = flat::divide_for(&mut balances, 31, &[0], &[], &[], 1.0, 0.0, &mut [], &mut []);
+/// assert_eq!(told.number, 19);
+/// ```
+pub fn divide_for(
+    balances: &mut [u64],
+    shop: u64,
+    chain: &[u8],
+    poses: &[f64],
+    joints: &[f64],
+    chord: f64,
+    axis: f64,
+    out_poses: &mut [f64],
+    out_joints: &mut [f64],
+) -> Told {
+    let mut told = Told::default();
+    told.number = unsafe {
+        maztubel_divide_for(
+            balances.as_mut_ptr(),
+            balances.len(),
+            shop,
+            chain.as_ptr(),
+            chain.len(),
+            poses.as_ptr(),
+            poses.len(),
+            joints.as_ptr(),
+            joints.len(),
+            chord,
+            axis,
+            out_poses.as_mut_ptr(),
+            out_poses.len(),
+            out_joints.as_mut_ptr(),
+            out_joints.len(),
+            &mut told.count,
+            &mut told.at,
+            &mut told.letter,
+        )
+    };
+    told
+}

@@ -45,6 +45,7 @@ mod model;
 mod path;
 mod pose;
 mod quote;
+mod quotas;
 #[allow(unsafe_code, missing_docs)]
 pub mod raw;
 mod refusal;
@@ -61,6 +62,7 @@ pub use path::{
 };
 pub use pose::{Joints, Pose};
 pub use quote::{Quotation, quote, quote_into};
+pub use quotas::{MOST_BALANCE, Quotas, SHOPS};
 pub use refusal::{Place, Reason, Refusal};
 pub use trig::{
     arccosine, arccosines, arccosines_into, arctangent, arctangents, arctangents_into, cosine,

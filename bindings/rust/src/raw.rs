@@ -254,4 +254,30 @@ unsafe extern "C" {
         found: &mut u64,
         index: &mut u64,
     ) -> u32;
+    pub fn maztubel_grant(
+        balances: *mut u64,
+        balances_length: usize,
+        shop: u64,
+        amount: u64,
+    ) -> u32;
+    pub fn maztubel_divide_for(
+        balances: *mut u64,
+        balances_length: usize,
+        shop: u64,
+        chain: *const u8,
+        chain_length: usize,
+        poses: *const f64,
+        poses_length: usize,
+        joints: *const f64,
+        joints_length: usize,
+        chord: f64,
+        axis: f64,
+        out_poses: *mut f64,
+        out_poses_length: usize,
+        out_joints: *mut f64,
+        out_joints_length: usize,
+        inserted: &mut u64,
+        at: &mut u64,
+        letter: &mut u8,
+    ) -> u32;
 }

@@ -88,13 +88,13 @@ reasons! {
          written tool axes too";
     TooLarge = 17,
         "sizes must be at most 100,000 mm (tip, pivot, tool length), 10,000,000 mm (joint position), 36,000 degrees \
-         (angle, rest angle, hint), 100,000 poses, 65,536 bytes (a job that is written), 800 radians (sine, cosine), 1 \
-         (arccosine), and finite (arctangent)";
+         (angle, rest angle, hint), 100,000 poses, 65,536 bytes (a job that is written), 1,000,000,000 inserted \
+         poses (a balance), 800 radians (sine, cosine), 1 (arccosine), and finite (arctangent)";
     Cone = 18, "the cone must be finite, above 0 and at most 10 degrees";
     Tolerance = 19, "the chord tolerance (mm) and the axis tolerance (degrees) must be finite and above 0";
     LengthsDiffer = 20,
         "buffers must hold whole records, lengths that belong together must be equal, a choice must be 0, 1 or 2, an \
-         index must be that of a joint set, and the rotary that is asked for must be 0 or 1";
+         index must be that of a joint set, the rotary that is asked for must be 0 or 1, and there must be 32 balances";
     NotReachable = 21, "the rotaries must reach the tool axis";
     OutsideLimits = 22,
         "the rotaries must reach the tool axis within their limits, without limits above -180 and at most 180 \
@@ -113,6 +113,8 @@ reasons! {
     ParallelRotaries = 30,
         "on a path two rotaries must not be parallel: the cross product of their unit axes must have a length of at \
          least 1e-9";
+    UnknownShop = 34, "a shop must be 0 to 31";
+    BalanceShort = 35, "a shop's balance must not be below the count of a division that is charged to it";
 }
 
 impl fmt::Display for Reason {

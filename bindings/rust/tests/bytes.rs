@@ -39,7 +39,7 @@ const NAME: &[u8] = b"mill";
 type OfAChain = (&'static str, fn(&[u8]) -> Told);
 
 /// Every entry that reads a chain, the rest sound.
-const OF_A_CHAIN: [OfAChain; 12] = [
+const OF_A_CHAIN: [OfAChain; 13] = [
     ("check_chain", flat::check_chain),
     ("forward", |chain| {
         flat::forward(chain, &JOINTS, 10.0, &mut [0.0; 6])
@@ -76,6 +76,11 @@ const OF_A_CHAIN: [OfAChain; 12] = [
         let after = if told.number == 0 { 0.0 } else { 9.0 };
         assert!(scratch.iter().all(|number| *number == after));
         told
+    }),
+    ("divide_for", |chain| {
+        let (poses, joints) = (&mut [0.0; 6], &mut [0.0; 5]);
+        let quota = &mut [0; 32];
+        flat::divide_for(quota, 31, chain, &POSE, &JOINTS, 1.0, 1.0, poses, joints)
     }),
     ("solve_and_divide", |chain| {
         let (poses, joints) = (&mut [0.0; 6], &mut [0.0; 5]);

@@ -437,3 +437,50 @@ fn of_first_above() {
         every_length(&[joints.clone(), summary.clone()], &[], ask, &whole);
     }
 }
+
+/// A slice of numbers as balances, by their bits.
+fn balances(numbers: &mut [f64]) -> &mut [u64] {
+    // SAFETY: both have eight bytes and are aligned alike, every bit pattern is one of either, and the borrow goes over.
+    unsafe { slice::from_raw_parts_mut(numbers.as_mut_ptr().cast(), numbers.len()) }
+}
+
+/// Each balance is the bits of 7.25, which is above the limit.
+#[test]
+fn of_grant() {
+    let ask: Ask = &|_, w| flat::grant(balances(w[0]), 3, 5);
+    every_length(&[], &[32], ask, &|l| l == [32]);
+}
+
+#[test]
+fn of_divide_for() {
+    let chain = tables().bytes();
+    let read = [
+        pose_numbers(&arc(2)),
+        vec![0.0, 0.0, 50.0, 0.0, 0.0, 1.0, 0.0, 50.0, 10.0, 0.0],
+    ];
+    let whole = |l: &[usize]| {
+        l[0].is_multiple_of(6)
+            && l[1].is_multiple_of(5)
+            && l[0] / 6 == l[1] / 5
+            && l[2] == 32
+            && l[3].is_multiple_of(6)
+            && l[4].is_multiple_of(5)
+    };
+    let ask: Ask = &|r, w| {
+        let [all, poses, joints] = w else {
+            unreachable!()
+        };
+        flat::divide_for(
+            balances(all),
+            3,
+            &chain,
+            r[0],
+            r[1],
+            0.01,
+            1.0,
+            poses,
+            joints,
+        )
+    };
+    every_length(&read, &[32, 90, 75], ask, &whole);
+}

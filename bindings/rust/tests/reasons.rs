@@ -64,15 +64,21 @@ fn declared() -> Vec<(String, u32, String)> {
 fn names_numbers_and_words_are_one_in_the_proved_code_the_header_and_here() {
     let (written, declared) = (written(), declared());
     assert!(29 <= declared.len() && declared.len() <= written.len());
-    for (at, (name, number, comment)) in declared.iter().enumerate() {
-        assert_eq!(*number, at as u32 + 1, "{name}");
-        assert_eq!(&(name.clone(), *number), &written[at]);
+    for (at, (_, number)) in written.iter().enumerate() {
+        assert_eq!(*number, at as u32 + 1);
+    }
+    for (name, number, comment) in &declared {
+        assert_eq!(&(name.clone(), *number), &written[*number as usize - 1]);
         let reason = Reason::from(*number);
         assert_eq!((&in_capitals(reason), reason.number()), (name, *number));
         assert_eq!(&reason.to_string(), comment);
     }
-    let next = declared.len() as u32 + 1;
-    assert_eq!(Reason::from(next), Reason::Unknown(next));
+    let numbers: BTreeSet<u32> = declared.iter().map(|(_, number, _)| *number).collect();
+    assert_eq!(numbers.len(), declared.len());
+    for number in 1..=written.len() as u32 + 1 {
+        let known = Reason::from(number) != Reason::Unknown(number);
+        assert_eq!(known, numbers.contains(&number), "{number}");
+    }
 }
 
 #[test]
@@ -92,7 +98,7 @@ fn each_text_says_what_must_hold() {
 
 #[test]
 fn a_number_that_the_crate_does_not_know() {
-    let last = declared().len() as u32;
+    let last = written().len() as u32;
     for number in [last + 1, 1000, u32::MAX] {
         let told = Told {
             number,

@@ -63,11 +63,11 @@ use Rattle.halving.specs.Halving as Halving
 use Rattle.maztubel.specs.PathEntries.{startIn}
 use Rattle.maztubel.specs.DivideEntries.{divisionNumber, subdivideRead, subdivideOf, bothLengths, bothRead, bothOf, Says}
 
--- ---- a number other than 0 and 27
-abbrev other : ℕ → Bool
-other number = not (eqb number Numbers.served) && not (eqb number Numbers.tooManyInsertions)
+-- ---- a number other than 0 and 27, and below those of quotas
+abbrev pub other : ℕ → Bool
+other number = not (eqb number Numbers.served) && not (eqb number Numbers.tooManyInsertions) && ltb number Numbers.unknownShop
 
-abbrev Cause : Refusal → Type 0
+abbrev pub Cause : Refusal → Type 0
 Cause r = other (r .number) ≡ true
 
 -- ---- lists of checks
@@ -367,7 +367,7 @@ path-cause k poses start cone room =
     kept-cause (solveCheck k start cone (length poses) room) _ (check-cause k start cone (length poses) room) (poses-cause (setUp k cone) (posesIn poses) (startAngles start) 0)
 
 -- ---- a division
-abbrev AnswerCause : DivisionAnswer → Type 0
+abbrev pub AnswerCause : DivisionAnswer → Type 0
 AnswerCause (Kept r) = Cause r
 AnswerCause (AtPose r) = Cause r
 AnswerCause (Cleared r) = Cause r
@@ -441,7 +441,7 @@ both-read-cause : (read : ChainRead) (poses : List Float) (start : Start) (cone 
 both-read-cause (ChainRead.Refused r) poses start cone tol a b h = h
 both-read-cause (ChainRead.Chain k) poses start cone tol a b h = both-cause k poses start cone tol a b
 
-subdivide-cause : (chain : List ℕ) (tol : Tolerances) (poses joints : List Float) (a b : ℕ) → AnswerCause (subdivideOf chain tol poses joints a b)
+pub subdivide-cause : (chain : List ℕ) (tol : Tolerances) (poses joints : List Float) (a b : ℕ) → AnswerCause (subdivideOf chain tol poses joints a b)
 unfolding subdivideOf
 subdivide-cause chain tol poses joints a b =
     cond-answer (not (fourWhole (length poses) (length joints) a b)) _ (subdivideRead (readChain chain) tol poses joints a b) refl
@@ -460,7 +460,7 @@ not-served r h e = false≢true (subst (λ (n : ℕ). other n ≡ true) e h)
 not-many : (r : Refusal) → Cause r → r .number ≡ Numbers.tooManyInsertions → ⊥
 not-many r h e = false≢true (subst (λ (n : ℕ). other n ≡ true) e h)
 
-unlike : (a b : ℕ) → eqb a b ≡ false → a ≡ b → (eqb b b ≡ true) → ⊥
+pub unlike : (a b : ℕ) → eqb a b ≡ false → a ≡ b → (eqb b b ≡ true) → ⊥
 unlike a b f e g = false≢true (sym f ∙ ap (λ (n : ℕ). eqb n b) e ∙ g)
 
 done-only : (a : DivisionAnswer) → AnswerCause a → divisionNumber (divisionIn a) ≡ Numbers.served → (n : ℕ) × (divisionIn a ≡ Division.Ended (Done n))
@@ -479,7 +479,7 @@ many-only (Halved (Halving.Done n l)) h e = absurd (unlike Numbers.served Number
 many-only (Halved (Halving.TooMany n)) h e = (n, refl)
 many-only (Halved (Halving.NoSpace n)) h e = absurd (unlike Numbers.noSpace Numbers.tooManyInsertions refl e refl)
 
-says : (a : DivisionAnswer) → AnswerCause a → (number : ℕ) → number ≡ divisionNumber (divisionIn a) → Says number (divisionIn a)
+pub says : (a : DivisionAnswer) → AnswerCause a → (number : ℕ) → number ≡ divisionNumber (divisionIn a) → Says number (divisionIn a)
 says a h number e = record {
   done = (λ f. done-only a h (sym e ∙ f), λ w. e ∙ ap divisionNumber (w .1));
   many = (λ f. many-only a h (sym e ∙ f), λ w. e ∙ ap divisionNumber (w .1));

@@ -9,5 +9,6 @@ pub mod QuoteEntries
 pub mod JobEntries
 pub mod WriteEntries
 pub mod ExtremesEntries
+pub mod QuotaEntries
 pub mod Steps
 pub mod Examples

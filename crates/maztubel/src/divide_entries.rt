@@ -110,7 +110,7 @@ fn hand_refusal(r: Refusal, inserted: &mut u64, at: &mut u64, letter: &mut u8) -
 }
 
 // The number, and the count, place and letter written.
-fn hand_over(said: Division, inserted: &mut u64, at: &mut u64, letter: &mut u8) -> u32
+pub fn hand_over(said: Division, inserted: &mut u64, at: &mut u64, letter: &mut u8) -> u32
     ensures number { λ n. ⌜ n ≡ S.divisionNumber said ⌝ }
     ensures count { λ n. ⌜ now (inserted .exit) ≡ S.insertedIn said ⌝ }
     ensures place { λ n. ⌜ now (at .exit) ≡ S.divisionPlace said ⌝ }
@@ -138,7 +138,7 @@ fn lengths_refused() -> Division
     })
 }
 
-fn subdivide_of(
+pub fn subdivide_of(
     chain: &[u8],
     poses: &[f64],
     joints: &[f64],

@@ -5,6 +5,7 @@ ghost use Rattle.extremes.specs.Checking as Checking;
 ghost use Rattle.extremes.specs.Entries as Entries;
 ghost use Rattle.maztubel.specs.Lent as Lent;
 ghost use Rattle.maztubel.specs.ExtremesEntries as S;
+use crate::lent::number_in;
 use chain::Checked;
 use extremes::Asked;
 
@@ -51,16 +52,6 @@ pub extern "C" fn maztubel_first_above(
     let asked = extremes::ask(joints, summary, rotary as usize, angle);
     put_asked(asked, found, index);
     number_in(asked_check(asked))
-}
-
-// The refusal's number; 0 where there is none.
-fn number_in(checked: Checked) -> u32
-    ensures { λ n. ⌜ n ≡ Lent.numberIn checked ⌝ }
-{
-    match checked {
-        Checked::Passed => 0,
-        Checked::Refused(r) => r.number,
-    }
 }
 
 fn asked_check(asked: Asked) -> Checked

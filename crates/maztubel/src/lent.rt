@@ -27,6 +27,16 @@ pub fn hand_back(checked: Checked, at: &mut u64, letter: &mut u8) -> u32
     }
 }
 
+// The refusal's number; 0 where there is none.
+pub fn number_in(checked: Checked) -> u32
+    ensures { λ n. ⌜ n ≡ S.numberIn checked ⌝ }
+{
+    match checked {
+        Checked::Passed => 0,
+        Checked::Refused(r) => r.number,
+    }
+}
+
 // Five numbers as joints.
 pub fn joints_in(joints: &[f64]) -> Joints
     requires { ⌜ length (now joints) ≡ 5 ⌝ }

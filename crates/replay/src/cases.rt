@@ -116,6 +116,36 @@ pub fn numbers(bytes: &[u8], into: &mut [f64]) -> usize
     i
 }
 
+// ---- whole numbers of eight bytes
+// By its index; 0 past the end.
+pub fn word(bytes: &[u8], index: u8) -> u64 {
+    let at = index as usize * 8;
+    if bytes.len() < 8 {
+        return 0;
+    }
+    if bytes.len() - 8 < at {
+        return 0;
+    }
+    chain::word_at(bytes, at)
+}
+
+// Those in the bytes, as many as there is room for.
+pub fn words(bytes: &[u8], into: &mut [u64]) -> usize
+    ensures { λ r. ⌜ (r ≤ length (now (into .exit))) × (r ≡ length (take r (now (into .exit)))) ⌝ }
+{
+    let count = bytes.len() / 8;
+    let mut i: usize = 0;
+    while i < into.len() {
+        if count <= i {
+            return i;
+        }
+        into[i] = chain::word_at(bytes, 8 * i);
+        i += 1;
+    }
+    i
+}
+
+// ---- what is lent
 // How many of the numbers are lent.
 pub fn room(case: &[u8], index: u8, numbers: &[f64]) -> usize
     ensures { λ r. ⌜ (r ≤ length (now (numbers .entry))) × (r ≡ length (take r (now (numbers .entry)))) ⌝ }

@@ -5,6 +5,7 @@ mod entries;
 mod functions;
 mod paths;
 mod quotes;
+mod quotas;
 mod summaries;
 mod told;
 
@@ -95,6 +96,8 @@ fn call(case: &[u8], first: &[f64], second: &[f64], lent: &mut [f64], other: &mu
         19 => summaries::replace_joints(case, first, lent, other),
         20 => summaries::first_above(case, first, second),
         21 => quotes::quote(case, first, second, lent, other),
+        22 => quotas::grant(case),
+        23 => quotas::divide_for(case, first, second, lent, other),
         _ => told::unknown(),
     }
 }

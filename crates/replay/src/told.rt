@@ -55,6 +55,23 @@ pub fn numbers(xs: &[f64]) {
     }
 }
 
+// In decimals.
+pub fn whole_numbers(xs: &[u64]) {
+    text::write(b" :");
+    each_count(xs, xs.len());
+}
+
+fn each_count(xs: &[u64], n: usize) {
+    let mut i: usize = 0;
+    while i < n {
+        if xs.len() <= i {
+            return;
+        }
+        count(xs[i]);
+        i += 1;
+    }
+}
+
 // From where on all are the same.
 fn front(xs: &[f64]) -> usize {
     let mut i = xs.len();

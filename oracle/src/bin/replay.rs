@@ -29,6 +29,7 @@ mod sample {
     use oracle::exact::Sums;
     use oracle::random::Random;
     use oracle::replayed::Replayed;
+    use oracle::replayed_quotas;
     use oracle::{cases, inverse_cases};
     use oracle::{replayed_calls, replayed_extremes, replayed_functions};
     use oracle::{replayed_jobs, replayed_quotes};
@@ -52,6 +53,10 @@ mod sample {
 
     /// So many divisions are followed by a looser one and by a second one of their result.
     const OF_LATER: usize = 12;
+
+    /// So many rows of grants and charged divisions there are, from a seed of their own.
+    const ROWS: usize = 5;
+    const QUOTAS: u64 = 11;
 
     /// How many bytes a case has with its line, mostly; and at most.
     const USUAL: usize = 1000;
@@ -284,6 +289,9 @@ mod sample {
             tell(entry.name, &cases);
             all.append(&mut cases);
         }
+        let mut cases = replayed_quotas::rows(ROWS, &mut Random::new(QUOTAS));
+        tell("quotas", &cases);
+        all.append(&mut cases);
         tell("all", &all);
         let stdin: Vec<u8> = all.iter().flat_map(|case| case.bytes.clone()).collect();
         let stdout: String = all.iter().map(|case| case.line.as_str()).collect();

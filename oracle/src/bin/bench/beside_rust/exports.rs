@@ -2,7 +2,7 @@
 
 use super::finishing::CONE;
 use super::forwards::{TOOL_LENGTH, TWO_TABLES, chain};
-use oracle::maztubel::{self, Asked, Course, Lent, Machine, Parts};
+use oracle::maztubel::{self, Asked, Course, Lent, Machine, Parts, Solved};
 use oracle::models::{self, BOX, Link};
 
 const JOINTS: [f64; 5] = [100.0, -50.0, 20.0, 30.0, -70.0];
@@ -29,6 +29,7 @@ pub struct Given {
     numbers: [f64; 250],
     places: [u64; 4],
     tolerances: [f64; 3],
+    balances: [u64; 32],
     count: u64,
     at: u64,
     letter: u8,
@@ -37,7 +38,7 @@ pub struct Given {
 /// With its name.
 type Export = (&'static str, fn(&mut Given) -> u32);
 
-pub const EXPORTS: [Export; 24] = [
+pub const EXPORTS: [Export; 26] = [
     ("sine", |g| maztubel::maztubel_sine(0.5, &mut g.numbers[0])),
     ("cosine", |g| {
         maztubel::maztubel_cosine(0.5, &mut g.numbers[0])
@@ -143,6 +144,23 @@ pub const EXPORTS: [Export; 24] = [
         let summary = &g.numbers[..10];
         maztubel::first_above(&JOINTS, summary, 1, 1.0, &mut g.count, &mut g.at)
     }),
+    ("grant", |g| maztubel::grant(&mut g.balances, 31, 1)),
+    ("divide_for", |g| {
+        let (poses, joints) = g.numbers.split_at_mut(130);
+        let lent = Lent {
+            poses: &mut poses[..60],
+            joints: &mut joints[..50],
+            inserted: &mut g.count,
+            at: &mut g.at,
+            letter: &mut g.letter,
+        };
+        let solved = Solved {
+            chain: &g.chain,
+            poses: &POSE,
+            joints: &JOINTS,
+        };
+        maztubel::divide_for(&mut g.balances, 31, solved, [1.0; 2], lent)
+    }),
 ];
 
 impl Given {
@@ -167,6 +185,7 @@ impl Given {
             numbers: [0.0; 250],
             places: [0; 4],
             tolerances: [0.0; 3],
+            balances: [0; 32],
             count: 0,
             at: 0,
             letter: 0,

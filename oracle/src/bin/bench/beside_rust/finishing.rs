@@ -211,6 +211,16 @@ impl Case {
         inserted as usize
     }
 
+    /// Charged to the first shop.
+    pub fn divide_for(&self, balances: &mut [u64], space: &mut Space) -> u32 {
+        let solved = Solved {
+            chain: &self.bytes,
+            poses: black_box(&self.poses),
+            joints: &self.joints,
+        };
+        maztubel::divide_for(balances, 0, solved, self.tolerances, space.lent())
+    }
+
     fn solve_and_divide(&self, space: &mut Space) -> u32 {
         maztubel::solve_and_divide(self.course(), self.tolerances, space.lent())
     }

@@ -9,6 +9,7 @@ mod memory;
 mod paths;
 mod program;
 mod quotations;
+mod quotas;
 mod stack;
 
 use crate::rows::{GROWN, Row, Section};
@@ -27,6 +28,7 @@ pub fn timed() -> (Vec<Section>, Vec<Row>) {
     ];
     sections.extend(paths::sections());
     sections.push(quotations::section());
+    sections.push(quotas::section());
     for section in &sections {
         show(&section.table());
     }
