@@ -97,7 +97,8 @@ enum {
     MAZTUBEL_TOO_LARGE = 17,
     /* the cone must be finite, above 0 and at most 10 degrees */
     MAZTUBEL_CONE = 18,
-    /* the chord tolerance (mm) and the axis tolerance (degrees) must be finite and above 0 */
+    /* the chord tolerance (mm), the axis tolerance (degrees) and the tolerance of a tooth (degrees) must be finite and
+     * above 0 */
     MAZTUBEL_TOLERANCE = 19,
     /* buffers must hold whole records, lengths that belong together must be equal, a choice must be 0, 1 or 2, an index
      * must be that of a joint set, the rotary that is asked for must be 0 or 1, and there must be 32 balances */
@@ -125,6 +126,8 @@ enum {
     /* on a path two rotaries must not be parallel: the cross product of their unit axes must have a length of at least
      * 1e-9 */
     MAZTUBEL_PARALLEL_ROTARIES = 30,
+    /* on the nearest teeth every rotary must be within its limits, and the tool axis within the tolerance */
+    MAZTUBEL_TOOTH_MISSES = 31,
     /* a shop must be 0 to 31 */
     MAZTUBEL_UNKNOWN_SHOP = 34,
     /* a shop's balance must not be below the count of a division that is charged to it */
@@ -232,7 +235,7 @@ uint32_t maztubel_forward(const uint8_t *chain, size_t chain_length, const doubl
  *   tool_length  as in maztubel_forward
  *   hint         2 angles in degrees; a rotary whose angle the tool axis leaves free takes its hint
  *
- * Refusals of both functions that keep the outputs:
+ * Refusals of the next two functions that keep the outputs:
  *   20      the length of a buffer, see each function
  *   29      the chain's bytes
  *   14      the tool length
@@ -282,6 +285,24 @@ enum {
 uint32_t maztubel_choose(const uint8_t *chain, size_t chain_length, const double *pose, size_t pose_length,
                          double tool_length, uint32_t choice, const double *hint, size_t hint_length, double *joints,
                          size_t joints_length, uint64_t *at, uint8_t *letter);
+
+/* Writes the joint set of maztubel_choose on the teeth of a Hirth table, which stand half a degree apart.
+ *
+ *   choice     as in maztubel_choose
+ *   tolerance  how far the tool axis that is reached on the teeth may be from the one that was asked for, in degrees,
+ *              finite and above 0
+ *   joints     output, 5 doubles, as in maztubel_forward: each angle of the joint set that maztubel_choose writes, at
+ *              its nearest half degree, a half away from zero and zero as +0.0; and the position that holds the tip
+ *              there. With one rotary the second angle is +0.0
+ *
+ * Refusals, in this order:
+ *   19      the tolerance, before all other checks
+ *           those of maztubel_choose, which leave the joints as maztubel_choose does
+ *   31      on the teeth a rotary is outside its limits, or the tool axis is off by more than the tolerance
+ * 19 and 31 keep the joints. No other joint set is tried where the nearest teeth of the chosen one miss. */
+uint32_t maztubel_choose_tooth(const uint8_t *chain, size_t chain_length, const double *pose, size_t pose_length,
+                               double tool_length, uint32_t choice, const double *hint, size_t hint_length,
+                               double tolerance, double *joints, size_t joints_length, uint64_t *at, uint8_t *letter);
 
 /* ---- Models: the shapes of a machine, and where they stand
  *

@@ -39,8 +39,8 @@ impl RotaryLimits {
 ";
 
 /// Stands behind the copies of kinematics.rs, whose own text stays: how `solve_path` comes to one pose, told by its own steps, its
-/// loop over the poses with another rule inside the cone, the clearance that it holds to the cone, the length that R-3 holds to
-/// 1e-9, and the gaps that `segment_within` holds to the tolerances.
+/// loop over the poses with another rule inside the cone, `inverse`'s steps for one pair of angles, the clearance that it holds to
+/// the cone, the length that R-3 holds to 1e-9, and the gaps that `segment_within` holds to the tolerances.
 const OF_A_POSE: &str = "
 #[derive(Clone, Copy, Debug, PartialEq)]
 pub(crate) enum Way {
@@ -98,6 +98,17 @@ impl Kinematics {
             left.total_cmp(&right).then_with(|| angle_order(*l, *r))
         });
         Some(all)
+    }
+
+    /// `inverse`'s steps for one pair of angles: the joints, how far the axis that is reached is from the pose's, and whether the
+    /// angles are within the limits.
+    pub(crate) fn placed(&self, pose: &ToolPose, tool_length: f64, angles: [f64; 2]) -> Result<(Joints, f64, bool)> {
+        let at_origin = Joints { xyz: Vec3::ZERO, angles };
+        let pose0 = self.forward(&at_origin, tool_length)?;
+        let table = self.chain(&at_origin, Carrier::Table)?;
+        let xyz = map_direction(&table, sub(pose.tip, pose0.tip));
+        let gap = angle_between_deg(pose0.axis, pose.axis);
+        Ok((Joints { xyz, angles }, gap, axis_outside(self, angles).is_none()))
     }
 
     pub(crate) fn clearance(&self, axis: Vec3) -> Option<f64> {

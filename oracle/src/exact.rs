@@ -142,6 +142,12 @@ impl Exact {
         !self.below && self.size != Size::ZERO
     }
 
+    /// The whole number nearest to 2^52 times the size, for a size of at most 1.
+    pub fn nearest_of_52(self) -> u64 {
+        let [_, _, fraction, whole] = self.size.0;
+        (whole << 52 | fraction >> 12) + (fraction >> 11 & 1)
+    }
+
     /// The double nearest, or a neighbour of it.
     pub fn nearly(self) -> f64 {
         let size = self.size.nearly();

@@ -100,6 +100,11 @@ pub mod stops;
 #[cfg(original)]
 pub mod tally;
 pub mod targets;
+pub mod teeth;
+#[cfg(original)]
+pub mod tooth_calls;
+#[cfg(original)]
+pub mod tooth_tally;
 #[cfg(original)]
 pub mod walks;
 pub mod wave_tally;

@@ -167,6 +167,33 @@ pub fn choose(asked: Asked, choice: u32, joints: &mut [f64], at: &mut u64, lette
     }
 }
 
+pub fn choose_tooth(
+    asked: Asked,
+    choice: u32,
+    tolerance: f64,
+    joints: &mut [f64],
+    at: &mut u64,
+    letter: &mut u8,
+) -> u32 {
+    unsafe {
+        maztubel_choose_tooth(
+            asked.chain.as_ptr(),
+            asked.chain.len(),
+            asked.pose.as_ptr(),
+            asked.pose.len(),
+            asked.tool_length,
+            choice,
+            asked.hint.as_ptr(),
+            asked.hint.len(),
+            tolerance,
+            joints.as_mut_ptr(),
+            joints.len(),
+            at,
+            letter,
+        )
+    }
+}
+
 pub fn link_world(
     machine: Machine,
     joints: &[f64],

@@ -1,9 +1,9 @@
 //! The Rust that is compared, built as it stands three times: `untouched`, `ported`, in which the calls of `sin_cos`, `sin`,
-//! `acos` and `atan2` in kinematics.rs go to the exports, `rotate_vector` takes the pair of its degrees from the port, and nothing
-//! else changes, and `counted`, which is `ported` with a count of the calls of `forward`. The build script writes all, and puts behind
+//! `acos` and `atan2` in kinematics.rs go to the exports, `rotate_vector` takes the pair of its degrees from the port, or within
+//! `on_teeth` from the oracle's own table, and nothing else changes, and `counted`, which is `ported` with a count of the calls of `forward`. The build script writes all, and puts behind
 //! each a constructor of limits that are not checked.
 
-use crate::{maztubel, probe};
+use crate::{maztubel, probe, teeth};
 use std::cell::Cell;
 use std::fmt;
 
@@ -58,6 +58,20 @@ pub trait Ported {
     fn ported_atan2(self, x: f64) -> f64;
 }
 
+thread_local! {
+    /// Whether this thread's turns stand on teeth.
+    static ON_TEETH: Cell<bool> = const { Cell::new(false) };
+}
+
+/// Lets every turn of `ported` that the work makes take its pair from the table of half degrees: `rotate_vector` and all above it
+/// stay the Rust's.
+pub fn on_teeth<T>(work: impl FnOnce() -> T) -> T {
+    ON_TEETH.set(true);
+    let done = work();
+    ON_TEETH.set(false);
+    done
+}
+
 impl Ported for f64 {
     fn ported_sin(self) -> f64 {
         maztubel::sine(self).unwrap_or(f64::NAN)
@@ -69,6 +83,9 @@ impl Ported for f64 {
     }
 
     fn ported_turn(self) -> (f64, f64) {
+        if ON_TEETH.get() {
+            return teeth::pair(self);
+        }
         let [mut sine, mut cosine] = [f64::NAN; 2];
         probe::turn(self, &mut sine, &mut cosine);
         (sine, cosine)

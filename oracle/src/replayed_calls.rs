@@ -15,6 +15,7 @@ use crate::reference;
 use crate::remarkable::too_many;
 use crate::replayed::{FILLED, FILLED_COUNT, Given, Line, Replayed};
 use crate::solved;
+use crate::tooth_calls::{self, Toothed};
 
 /// So many poses are given at most, that lines stay short.
 const MOST_POSES: usize = 5;
@@ -81,6 +82,29 @@ pub fn of_inverse(entry: inverse_cases::Entry, random: &mut Random) -> Option<Re
             which: case.choice.min(u32::from(u16::MAX)) as u16,
             bytes: &case.chain,
             numbers: [&case.pose, &case.hint, &[case.tool_length]],
+            rooms: [case.room(entry), 0],
+            ..Given::default()
+        },
+    )
+}
+
+/// Choose on teeth. The tolerance stands behind the tool length.
+pub fn of_teeth(random: &mut Random) -> Option<Replayed> {
+    let toothed = Toothed::new(random);
+    let (case, entry) = (&toothed.call, inverse_cases::Entry::Choose);
+    let (answer, _) = tooth_calls::expected(&toothed);
+    let told = inverse_calls::telling(entry, case, &answer);
+    let line = Line::new("choose_tooth", told.number, told.at[1], told.letter[1]);
+    Replayed::new(
+        line.numbers(&lent(&told.numbers)),
+        &Given {
+            which: case.choice.min(u32::from(u16::MAX)) as u16,
+            bytes: &case.chain,
+            numbers: [
+                &case.pose,
+                &case.hint,
+                &[case.tool_length, toothed.tolerance],
+            ],
             rooms: [case.room(entry), 0],
             ..Given::default()
         },

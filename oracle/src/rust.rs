@@ -173,6 +173,19 @@ macro_rules! on_plain_numbers {
                 joints.map(set_numbers).map_err(words)
             }
 
+            /// By `inverse`'s steps at two angles: the joint set, how far the axis that is reached is from the pose's, and whether the
+            /// angles are within the limits.
+            pub fn placed(
+                chain: &Kinematics,
+                pose: &[f64],
+                tool: f64,
+                angles: [f64; 2],
+            ) -> Told<([f64; 5], f64, bool)> {
+                let placed = chain.placed(&tool_pose(pose), tool, angles);
+                let (joints, gap, inside) = placed.map_err(words)?;
+                Ok((set_numbers(joints), gap, inside))
+            }
+
             /// The origin and the three axes.
             pub fn link_world(chain: &Kinematics, joints: &[f64], carrier: &str) -> Told<Vec<f64>> {
                 let frame = chain.link_world(&joint_set(joints), carrier);

@@ -12,6 +12,7 @@ use crate::quote_tally::Quotes;
 use crate::quota_tally::Quotas;
 use crate::random::Random;
 use crate::tally::Tally as Chains;
+use crate::tooth_tally::Teeth;
 use crate::wave_tally::Waves;
 use crate::ways::Ways;
 use crate::write_tally::WriteTally;
@@ -32,6 +33,7 @@ pub struct Soak {
     writes: WriteTally,
     extremes: Extremes,
     quotas: Quotas,
+    teeth: Teeth,
 }
 
 type Part = fn(&mut Soak, &mut Random);
@@ -62,6 +64,7 @@ const ROUND: [Part; 23] = [
     Soak::extremes,
     Soak::quotes,
     Soak::quotas,
+    Soak::teeth,
 ];
 
 /// One round in so many, the second of them first, has the cases that take longer.
@@ -88,6 +91,7 @@ impl Outcome for Soak {
         self.writes.add(more.writes);
         self.extremes.add(more.extremes);
         self.quotas.add(more.quotas);
+        self.teeth.add(more.teeth);
     }
 }
 
@@ -148,6 +152,10 @@ impl Soak {
         self.quotas.compare_drawn(40, random);
     }
 
+    fn teeth(&mut self, random: &mut Random) {
+        self.teeth.compare_drawn(8_000, random);
+    }
+
     fn long_paths(&mut self, random: &mut Random) {
         self.paths.compare_long(random);
     }
@@ -177,7 +185,7 @@ impl Soak {
         self.quotas.compare_many(random);
     }
 
-    fn families(&self) -> [&dyn Account; 10] {
+    fn families(&self) -> [&dyn Account; 11] {
         let Soak {
             waves,
             chains,
@@ -189,9 +197,11 @@ impl Soak {
             extremes,
             quotes,
             quotas,
+            teeth,
         } = self;
         [
             waves, chains, inverses, paths, divisions, jobs, writes, extremes, quotes, quotas,
+            teeth,
         ]
     }
 

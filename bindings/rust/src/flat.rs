@@ -334,6 +334,44 @@ pub fn choose(
     told
 }
 
+/// What [`choose`] gives, on the nearest teeth of a Hirth table: 19 for the tolerance before all else, then `choose`'s refusals,
+/// then 31. 21 and 22 leave +0.0, every other refusal keeps the joints.
+///
+/// ```
+/// use maztubel::flat;
+/// assert_eq!(flat::choose_tooth(&[], &[], 0.0, 3, &[], 0.0, &mut []).number, 19);
+/// assert_eq!(flat::choose_tooth(&[], &[0.0; 6], 0.0, 3, &[0.0; 2], 1.0, &mut [9.0; 5]).number, 20);
+/// ```
+pub fn choose_tooth(
+    chain: &[u8],
+    pose: &[f64],
+    tool_length: f64,
+    choice: u32,
+    hint: &[f64],
+    tolerance: f64,
+    joints: &mut [f64],
+) -> Told {
+    let mut told = Told::default();
+    told.number = unsafe {
+        maztubel_choose_tooth(
+            chain.as_ptr(),
+            chain.len(),
+            pose.as_ptr(),
+            pose.len(),
+            tool_length,
+            choice,
+            hint.as_ptr(),
+            hint.len(),
+            tolerance,
+            joints.as_mut_ptr(),
+            joints.len(),
+            &mut told.at,
+            &mut told.letter,
+        )
+    };
+    told
+}
+
 /// Whether a chain with its name and its model can be served.
 ///
 /// ```

@@ -62,6 +62,17 @@ pub enum Choice {
     FirstNegative,
 }
 
+impl Choice {
+    /// Its number, and the hint that goes with it.
+    fn parts(self) -> (u32, [f64; 2]) {
+        match self {
+            Choice::Nearest(hint) => (flat::NEAREST, hint),
+            Choice::FirstPositive => (flat::FIRST_POSITIVE, [0.0; 2]),
+            Choice::FirstNegative => (flat::FIRST_NEGATIVE, [0.0; 2]),
+        }
+    }
+}
+
 /// One of [`inverse`]'s joint sets.
 ///
 /// ```
@@ -89,11 +100,7 @@ pub fn choose(
     tool_length: f64,
     choice: Choice,
 ) -> Result<Joints, Refusal> {
-    let (number, hint) = match choice {
-        Choice::Nearest(hint) => (flat::NEAREST, hint),
-        Choice::FirstPositive => (flat::FIRST_POSITIVE, [0.0; 2]),
-        Choice::FirstNegative => (flat::FIRST_NEGATIVE, [0.0; 2]),
-    };
+    let (number, hint) = choice.parts();
     let mut joints = Joints::default();
     flat::choose(
         &chain.bytes(),
@@ -101,6 +108,59 @@ pub fn choose(
         tool_length,
         number,
         &hint,
+        flat::numbers_mut(slice::from_mut(&mut joints)),
+    )
+    .served()?;
+    Ok(joints)
+}
+
+/// What [`choose`] gives, on the teeth of a Hirth table, which stand half a degree apart: each angle goes to its nearest half
+/// degree, a half away from zero, and the position is worked out again, so that the tip holds.
+///
+/// `tolerance` is how far the tool axis that is reached there may be from the pose's, in degrees. A tolerance that is not finite
+/// and above 0 is refused as 19 before all else, then come `choose`'s refusals, then [`crate::Reason::ToothMisses`]: on the teeth a
+/// rotary is outside its limits, or the axis is off by more than the tolerance. No other joint set is tried then.
+///
+/// ```
+/// use maztubel::{Carrier, Chain, Choice, Pose, Reason, Rotary, choose_tooth};
+///
+/// let chain = Chain {
+///     rotaries: vec![Rotary {
+///         letter: b'C',
+///         carrier: Carrier::Head,
+///         axis: [0.0, 0.0, 1.0],
+///         pivot: [0.0; 3],
+///         limits: None,
+///     }],
+///     spindle: [1.0, 0.0, 0.0],
+/// };
+/// let (sine, cosine) = 30.2_f64.to_radians().sin_cos();
+/// let pose = Pose { tip: [5.0, 6.0, 7.0], axis: [cosine, sine, 0.0] };
+///
+/// let joints = choose_tooth(&chain, &pose, 0.0, Choice::FirstPositive, 0.25)?;
+/// assert_eq!(joints.angles, [30.0, 0.0]);
+/// assert_eq!(joints.position, [5.0, 6.0, 7.0]);
+///
+/// let refusal = choose_tooth(&chain, &pose, 0.0, Choice::FirstPositive, 0.1).unwrap_err();
+/// assert_eq!(refusal.reason, Reason::ToothMisses);
+/// # Ok::<(), maztubel::Refusal>(())
+/// ```
+pub fn choose_tooth(
+    chain: &Chain,
+    pose: &Pose,
+    tool_length: f64,
+    choice: Choice,
+    tolerance: f64,
+) -> Result<Joints, Refusal> {
+    let (number, hint) = choice.parts();
+    let mut joints = Joints::default();
+    flat::choose_tooth(
+        &chain.bytes(),
+        flat::numbers(slice::from_ref(pose)),
+        tool_length,
+        number,
+        &hint,
+        tolerance,
         flat::numbers_mut(slice::from_mut(&mut joints)),
     )
     .served()?;

@@ -53,7 +53,7 @@ mod trig;
 
 pub use chain::{Carrier, Chain, Limits, Rotary, check_chain, forward};
 pub use extremes::{Extremes, GROUP};
-pub use inverse::{Choice, MOST_SOLUTIONS, choose, inverse};
+pub use inverse::{Choice, MOST_SOLUTIONS, choose, choose_tooth, inverse};
 pub use job::{Job, cable_number, job_poses_into};
 pub use model::{Frame, Link, Machine, Mount, Solid, check_model, link_in_part, link_world};
 pub use path::{

@@ -77,6 +77,21 @@ unsafe extern "C" {
         at: &mut u64,
         letter: &mut u8,
     ) -> u32;
+    pub fn maztubel_choose_tooth(
+        chain: *const u8,
+        chain_length: usize,
+        pose: *const f64,
+        pose_length: usize,
+        tool_length: f64,
+        choice: u32,
+        hint: *const f64,
+        hint_length: usize,
+        tolerance: f64,
+        joints: *mut f64,
+        joints_length: usize,
+        at: &mut u64,
+        letter: &mut u8,
+    ) -> u32;
     pub fn maztubel_check_model(
         name: *const u8,
         name_length: usize,

@@ -91,7 +91,9 @@ reasons! {
          (angle, rest angle, hint), 100,000 poses, 65,536 bytes (a job that is written), 1,000,000,000 inserted \
          poses (a balance), 800 radians (sine, cosine), 1 (arccosine), and finite (arctangent)";
     Cone = 18, "the cone must be finite, above 0 and at most 10 degrees";
-    Tolerance = 19, "the chord tolerance (mm) and the axis tolerance (degrees) must be finite and above 0";
+    Tolerance = 19,
+        "the chord tolerance (mm), the axis tolerance (degrees) and the tolerance of a tooth (degrees) must be finite \
+         and above 0";
     LengthsDiffer = 20,
         "buffers must hold whole records, lengths that belong together must be equal, a choice must be 0, 1 or 2, an \
          index must be that of a joint set, the rotary that is asked for must be 0 or 1, and there must be 32 balances";
@@ -115,6 +117,8 @@ reasons! {
          least 1e-9";
     UnknownShop = 34, "a shop must be 0 to 31";
     BalanceShort = 35, "a shop's balance must not be below the count of a division that is charged to it";
+    ToothMisses = 31,
+        "on the nearest teeth every rotary must be within its limits, and the tool axis within the tolerance";
 }
 
 impl fmt::Display for Reason {

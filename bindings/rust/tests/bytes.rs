@@ -51,6 +51,10 @@ const OF_A_CHAIN: [OfAChain; 13] = [
         let first = flat::FIRST_POSITIVE;
         flat::choose(chain, &POSE, 10.0, first, &[0.0; 2], &mut [0.0; 5])
     }),
+    ("choose_tooth", |chain| {
+        let first = flat::FIRST_POSITIVE;
+        flat::choose_tooth(chain, &POSE, 10.0, first, &[0.0; 2], 180.0, &mut [0.0; 5])
+    }),
     ("check_model", |chain| flat::check_model(NAME, chain, &[])),
     ("link_world", |chain| {
         flat::link_world(NAME, chain, &[], &JOINTS, b"table", &mut [0.0; 12])

@@ -211,6 +211,8 @@ fn of_inverse() {
     for choice in [flat::NEAREST, flat::FIRST_POSITIVE, flat::FIRST_NEGATIVE] {
         let ask: Ask = &|r, w| flat::choose(&chain, r[0], 10.0, choice, r[1], w[0]);
         every_length(&read, &[5], ask, &|l| l == [6, 2, 5]);
+        let ask: Ask = &|r, w| flat::choose_tooth(&chain, r[0], 10.0, choice, r[1], 180.0, w[0]);
+        every_length(&read, &[5], ask, &|l| l == [6, 2, 5]);
     }
 }
 

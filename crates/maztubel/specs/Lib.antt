@@ -3,6 +3,7 @@ pub mod Lent
 pub mod ChainEntries
 pub mod LinkEntries
 pub mod InverseEntries
+pub mod ToothEntries
 pub mod PathEntries
 pub mod DivideEntries
 pub mod QuoteEntries

@@ -69,7 +69,7 @@ pub extern "C" fn maztubel_choose(
 // ---- what is lent to be read
 
 // Six numbers as a pose.
-fn pose_in(pose: &[f64]) -> ToolPose
+pub fn pose_in(pose: &[f64]) -> ToolPose
     requires { ⌜ length (now pose) ≡ 6 ⌝ }
     ensures { λ r. ⌜ r ≡ S.poseIn (now (pose .entry)) ⌝ }
 {
@@ -87,7 +87,7 @@ fn pose_in(pose: &[f64]) -> ToolPose
 }
 
 // Two numbers as angles.
-fn angles_in(hint: &[f64]) -> Angles
+pub fn angles_in(hint: &[f64]) -> Angles
     requires { ⌜ length (now hint) ≡ 2 ⌝ }
     ensures { λ r. ⌜ r ≡ S.anglesIn (now (hint .entry)) ⌝ }
 {
@@ -96,7 +96,7 @@ fn angles_in(hint: &[f64]) -> Angles
     Angles { a0, a1 }
 }
 
-fn choice_of(choice: u32, hint: Angles) -> Choice
+pub fn choice_of(choice: u32, hint: Angles) -> Choice
     ensures { λ r. ⌜ r ≡ S.choiceOf choice hint ⌝ }
 {
     if choice == 0 {
@@ -133,7 +133,7 @@ fn refused_answers(r: Refusal) -> Answers
     }
 }
 
-fn lengths_differ() -> Refusal
+pub fn lengths_differ() -> Refusal
     ensures { λ r. ⌜ r ≡ S.lengthsRefused ⌝ }
 {
     Refusal {
@@ -206,7 +206,7 @@ fn choose_read(read: ChainRead, pose: ToolPose, tool_length: f64, choice: Choice
     }
 }
 
-fn chosen_check(answer: Chosen) -> Checked
+pub fn chosen_check(answer: Chosen) -> Checked
     ensures { λ r. ⌜ r ≡ S.chosenCheck answer ⌝ }
 {
     match answer {
@@ -297,7 +297,7 @@ fn put_count(answers: Answers, count: &mut u64)
     }
 }
 
-fn put_chosen(answer: Chosen, joints: &mut [f64])
+pub fn put_chosen(answer: Chosen, joints: &mut [f64])
     ensures { λ u. ⌜ now (joints .exit) ≡ S.jointsOver answer (now (joints .entry)) ⌝ }
 {
     match answer {

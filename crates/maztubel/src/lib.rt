@@ -3,9 +3,10 @@
 //
 // Sine, cosine, arctangent and arccosine, of one argument and of slices. A slice form tests every argument before it writes the
 // first answer, so that a refusal leaves the slice as it was. The entries of a chain stand in chain_entries, those of the inverse map
-// in inverse_entries, those of a model in link_entries, that of a path in path_entries, those that divide in divide_entries, the one
-// that quotes a division in quote_entries, those of quotas in quota_entries, those of a job in job_entries, the one that writes a job
-// in write_entries, those of the extremes beside a path in extremes_entries; a crate above calls all of them from here.
+// in inverse_entries, that of the positioning profile in tooth_entries, those of a model in link_entries, that of a path in
+// path_entries, those that divide in divide_entries, the one that quotes a division in quote_entries, those of quotas in quota_entries,
+// those of a job in job_entries, the one that writes a job in write_entries, those of the extremes beside a path in extremes_entries; a
+// crate above calls all of them from here.
 mod chain_entries;
 mod divide_entries;
 mod extremes_entries;
@@ -16,6 +17,7 @@ mod link_entries;
 mod path_entries;
 mod quote_entries;
 mod quota_entries;
+mod tooth_entries;
 mod write_entries;
 
 pub use chain_entries::maztubel_check_chain;
@@ -37,6 +39,7 @@ pub use path_entries::maztubel_solve_path;
 pub use quote_entries::maztubel_quote;
 pub use quota_entries::maztubel_divide_for;
 pub use quota_entries::maztubel_grant;
+pub use tooth_entries::maztubel_choose_tooth;
 pub use write_entries::maztubel_write_job;
 ghost use mathlib.Core.Path.{_≡_};
 ghost use mathlib.Core.Bool.{_&&_};

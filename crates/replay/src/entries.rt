@@ -120,3 +120,22 @@ pub fn choose(case: &[u8], pose: &[f64], hint: &[f64], joints: &mut [f64]) {
     told::numbers(joints);
     told::end();
 }
+
+pub fn choose_tooth(case: &[u8], pose: &[f64], hint: &[f64], joints: &mut [f64]) {
+    let mut at: u64 = 7;
+    let mut letter: u8 = 7;
+    let number = maztubel::maztubel_choose_tooth(
+        chain_or_job(case),
+        pose,
+        single(case, 0),
+        field(case, WHICH) as u32,
+        hint,
+        single(case, 1),
+        joints,
+        &mut at,
+        &mut letter,
+    );
+    told::begin(b"choose_tooth", number, at, letter);
+    told::numbers(joints);
+    told::end();
+}

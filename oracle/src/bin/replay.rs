@@ -145,6 +145,7 @@ mod sample {
         all.push(of_writer());
         all.extend(of_extremes());
         all.push(of_quotes());
+        all.push(of_teeth());
         all
     }
 
@@ -257,6 +258,16 @@ mod sample {
     fn of_quotes<'a>() -> Entry<'a> {
         let refused = [16, 17, 19, 20, 28, 30];
         Entry::new("quote", 110, &[&CHAIN, &refused], replayed_quotes::of_quote).longer(6)
+    }
+
+    fn of_teeth<'a>() -> Entry<'a> {
+        let refused = [14, 15, 16, 17, 19, 20, 21, 22, 31];
+        Entry::new(
+            "choose_tooth",
+            110,
+            &[&CHAIN, &refused],
+            replayed_calls::of_teeth,
+        )
     }
 
     /// Every job of examples/jobs stands before what is drawn, and behind it, once for each call that divides or quotes, 27.

@@ -38,7 +38,7 @@ pub struct Given {
 /// With its name.
 type Export = (&'static str, fn(&mut Given) -> u32);
 
-pub const EXPORTS: [Export; 26] = [
+pub const EXPORTS: [Export; 27] = [
     ("sine", |g| maztubel::maztubel_sine(0.5, &mut g.numbers[0])),
     ("cosine", |g| {
         maztubel::maztubel_cosine(0.5, &mut g.numbers[0])
@@ -86,6 +86,10 @@ pub const EXPORTS: [Export; 26] = [
     ("choose", |g| {
         let joints = &mut g.numbers[..5];
         maztubel::choose(asked(&g.chain), 0, joints, &mut g.at, &mut g.letter)
+    }),
+    ("choose_tooth", |g| {
+        let joints = &mut g.numbers[..5];
+        maztubel::choose_tooth(asked(&g.chain), 0, 1.0, joints, &mut g.at, &mut g.letter)
     }),
     ("solve_path, through the cone", |g| {
         let (course, joints) = (through_the_cone(&g.chain), &mut g.numbers[..30]);

@@ -11,6 +11,7 @@ mod program;
 mod quotations;
 mod quotas;
 mod stack;
+mod teeth;
 
 use crate::rows::{GROWN, Row, Section};
 use crate::show;
@@ -25,6 +26,7 @@ pub fn timed() -> (Vec<Section>, Vec<Row>) {
         forwards::section(),
         forwards::rested(),
         inverses::section(),
+        teeth::section(),
     ];
     sections.extend(paths::sections());
     sections.push(quotations::section());
