@@ -91,9 +91,9 @@ enum {
     /* joints, start, hint, tips and an angle that is asked for must be finite, in a division and in a job that is
      * written tool axes too */
     MAZTUBEL_NOT_FINITE = 16,
-    /* sizes must be at most 100,000 mm (tip, pivot, tool length), 10,000,000 mm (joint position), 36,000 degrees
-     * (angle, rest angle, hint), 100,000 poses, 65,536 bytes (a job that is written), 1,000,000,000 inserted poses
-     * (a balance), 800 radians (sine, cosine), 1 (arccosine), and finite (arctangent) */
+    /* sizes must be at most 100,000 mm (tip, pivot, tool length, and a solid where links meet), 10,000,000 mm (joint
+     * position), 36,000 degrees (angle, rest angle, hint), 100,000 poses, 65,536 bytes (a job that is written),
+     * 1,000,000,000 inserted poses (a balance), 800 radians (sine, cosine), 1 (arccosine), and finite (arctangent) */
     MAZTUBEL_TOO_LARGE = 17,
     /* the cone must be finite, above 0 and at most 10 degrees */
     MAZTUBEL_CONE = 18,
@@ -664,6 +664,35 @@ uint32_t maztubel_divide_for(uint64_t *balances, size_t balances_length, uint64_
                              size_t chain_length, const double *poses, size_t poses_length, const double *joints,
                              size_t joints_length, double chord, double axis, double *out_poses, size_t out_poses_length,
                              double *out_joints, size_t out_joints_length, uint64_t *inserted, uint64_t *at,
+                             uint8_t *letter);
+
+/* ---- Do links meet?
+ *
+ * Each link of a model stands for a ball. A box: about its middle, with half its diagonal for a radius. A cylinder:
+ * about the middle of its length, reaching its rims. The middles stand where maztubel_link_world places them. Two links
+ * meet where their carriers differ, byte for byte, and their middles are nearer than the sum of the radii; where the
+ * balls only touch they do not. So a warning may come too soon, since a ball is larger than its solid. */
+
+/* The first joint set of a path at which two links meet, and the first two that do: by the earlier link of the model,
+ * then by the later one.
+ *
+ *   name, chain, model  as in maztubel_check_model
+ *   joints              joint sets of 5 doubles each, as in maztubel_forward; any number of them
+ *   found               output, 1 if two links meet, else 0
+ *   pose                output, the index of the joint set, from 0; 0 if none meet
+ *   first, second       outputs, the indices of the two links in the model, from 0, the earlier one first; 0 if none meet
+ *
+ * An empty path, and a model with fewer than two links, have none, after all checks.
+ *
+ * Refusals, all of which keep found, pose, first and second:
+ *   20      no whole joint sets
+ *           the refusals of maztubel_check_model without 17
+ *   16      a joint is not finite
+ *   17      a pivot is above 100,000 mm in size, a position above 10,000,000 mm or an angle above 36,000 degrees; or of
+ *           a solid a coordinate, the radius or the length above 100,000 mm. A cylinder's axis has no limit */
+uint32_t maztubel_links_meet(const uint8_t *name, size_t name_length, const uint8_t *chain, size_t chain_length,
+                             const uint8_t *model, size_t model_length, const double *joints, size_t joints_length,
+                             uint64_t *found, uint64_t *pose, uint64_t *first, uint64_t *second, uint64_t *at,
                              uint8_t *letter);
 
 #ifdef __cplusplus

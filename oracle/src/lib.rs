@@ -51,6 +51,12 @@ pub mod lean;
 pub mod loosened;
 pub mod machines;
 pub mod maztubel;
+#[cfg(original)]
+pub mod meeting_cases;
+#[cfg(original)]
+pub mod meeting_tally;
+#[cfg(original)]
+pub mod meetings;
 pub mod met;
 pub mod models;
 pub mod numbers;
@@ -89,6 +95,8 @@ pub mod replayed_jobs;
 pub mod replayed_quotes;
 #[cfg(original)]
 pub mod replayed_quotas;
+#[cfg(original)]
+pub mod replayed_meetings;
 #[cfg(original)]
 pub mod rust;
 #[cfg(original)]

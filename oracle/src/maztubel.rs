@@ -539,3 +539,32 @@ pub fn divide_for(
         )
     }
 }
+
+/// Lent are found, the pose and the two links.
+pub fn links_meet(
+    machine: Machine,
+    joints: &[f64],
+    [found, pose, first, second]: [&mut u64; 4],
+    at: &mut u64,
+    letter: &mut u8,
+) -> u32 {
+    let Machine { name, chain, model } = machine;
+    unsafe {
+        maztubel_links_meet(
+            name.as_ptr(),
+            name.len(),
+            chain.as_ptr(),
+            chain.len(),
+            model.as_ptr(),
+            model.len(),
+            joints.as_ptr(),
+            joints.len(),
+            found,
+            pose,
+            first,
+            second,
+            at,
+            letter,
+        )
+    }
+}

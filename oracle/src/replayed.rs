@@ -18,7 +18,7 @@ const MOST_ROOMS: [usize; 2] = [256, 128];
 const LONG_ROOMS: [usize; 2] = [60_012, 50_010];
 
 /// Every entry, by its number in a case.
-pub const ENTRIES: [&str; 25] = [
+pub const ENTRIES: [&str; 26] = [
     "check_chain",
     "forward",
     "check_model",
@@ -44,6 +44,7 @@ pub const ENTRIES: [&str; 25] = [
     "grant",
     "divide_for",
     "choose_tooth",
+    "links_meet",
 ];
 
 /// What a call is given: the choice or the rotary; the bytes of a chain or of a job; a name, a model and a carrier; two slices of

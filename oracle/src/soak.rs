@@ -6,6 +6,7 @@ use crate::extremes_tally::Extremes;
 use crate::insertions::Insertions;
 use crate::inverse_tally::Tally as Inverses;
 use crate::job_tally::JobTally;
+use crate::meeting_tally::Meetings;
 use crate::met::Account;
 use crate::parts::Outcome;
 use crate::quote_tally::Quotes;
@@ -34,6 +35,7 @@ pub struct Soak {
     extremes: Extremes,
     quotas: Quotas,
     teeth: Teeth,
+    meetings: Meetings,
 }
 
 type Part = fn(&mut Soak, &mut Random);
@@ -65,6 +67,7 @@ const ROUND: [Part; 23] = [
     Soak::quotes,
     Soak::quotas,
     Soak::teeth,
+    Soak::meetings,
 ];
 
 /// One round in so many, the second of them first, has the cases that take longer.
@@ -77,6 +80,7 @@ const LONG: [Part; 6] = [
     Soak::long_extremes,
     Soak::exact_quotes,
     Soak::many_quotas,
+    Soak::long_meetings,
 ];
 
 impl Outcome for Soak {
@@ -92,6 +96,7 @@ impl Outcome for Soak {
         self.extremes.add(more.extremes);
         self.quotas.add(more.quotas);
         self.teeth.add(more.teeth);
+        self.meetings.add(more.meetings);
     }
 }
 
@@ -156,6 +161,10 @@ impl Soak {
         self.teeth.compare_drawn(8_000, random);
     }
 
+    fn meetings(&mut self, random: &mut Random) {
+        self.meetings.compare_drawn(4_000, random);
+    }
+
     fn long_paths(&mut self, random: &mut Random) {
         self.paths.compare_long(random);
     }
@@ -185,7 +194,11 @@ impl Soak {
         self.quotas.compare_many(random);
     }
 
-    fn families(&self) -> [&dyn Account; 11] {
+    fn long_meetings(&mut self, random: &mut Random) {
+        self.meetings.compare_long(random);
+    }
+
+    fn families(&self) -> [&dyn Account; 12] {
         let Soak {
             waves,
             chains,
@@ -198,10 +211,11 @@ impl Soak {
             quotes,
             quotas,
             teeth,
+            meetings,
         } = self;
         [
             waves, chains, inverses, paths, divisions, jobs, writes, extremes, quotes, quotas,
-            teeth,
+            teeth, meetings,
         ]
     }
 

@@ -896,3 +896,47 @@ pub fn divide_for(
     };
     told
 }
+
+/// Whether two links meet on the path of joint sets, 5 numbers each: 1, the index of the first joint set at which two do, and those of
+/// the first two links; or four times 0. A refusal keeps the four numbers.
+///
+/// ```
+/// use maztubel::flat;
+/// let [mut found, mut pose, mut first, mut second] = [9; 4];
+/// let told = flat::links_meet(b"mill", &[0], &[], &[0.0; 4], &mut found, &mut pose, &mut first, &mut second);
+/// assert_eq!(told.number, 20);
+/// let told = flat::links_meet(b"mill", &[0], &[], &[0.0; 5], &mut found, &mut pose, &mut first, &mut second);
+/// assert_eq!(told.number, 3);
+/// assert_eq!([found, pose, first, second], [9; 4]);
+/// ```
+pub fn links_meet(
+    name: &[u8],
+    chain: &[u8],
+    model: &[u8],
+    joints: &[f64],
+    found: &mut u64,
+    pose: &mut u64,
+    first: &mut u64,
+    second: &mut u64,
+) -> Told {
+    let mut told = Told::default();
+    told.number = unsafe {
+        maztubel_links_meet(
+            name.as_ptr(),
+            name.len(),
+            chain.as_ptr(),
+            chain.len(),
+            model.as_ptr(),
+            model.len(),
+            joints.as_ptr(),
+            joints.len(),
+            found,
+            pose,
+            first,
+            second,
+            &mut told.at,
+            &mut told.letter,
+        )
+    };
+    told
+}

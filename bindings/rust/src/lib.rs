@@ -41,6 +41,7 @@ mod extremes;
 pub mod flat;
 mod inverse;
 mod job;
+mod meet;
 mod model;
 mod path;
 mod pose;
@@ -55,6 +56,7 @@ pub use chain::{Carrier, Chain, Limits, Rotary, check_chain, forward};
 pub use extremes::{Extremes, GROUP};
 pub use inverse::{Choice, MOST_SOLUTIONS, choose, choose_tooth, inverse};
 pub use job::{Job, cable_number, job_poses_into};
+pub use meet::{Meeting, links_meet};
 pub use model::{Frame, Link, Machine, Mount, Solid, check_model, link_in_part, link_world};
 pub use path::{
     Divided, MOST_INSERTED, Start, Tolerances, given_indices, solve_and_divide,

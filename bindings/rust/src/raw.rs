@@ -295,4 +295,20 @@ unsafe extern "C" {
         at: &mut u64,
         letter: &mut u8,
     ) -> u32;
+    pub fn maztubel_links_meet(
+        name: *const u8,
+        name_length: usize,
+        chain: *const u8,
+        chain_length: usize,
+        model: *const u8,
+        model_length: usize,
+        joints: *const f64,
+        joints_length: usize,
+        found: &mut u64,
+        pose: &mut u64,
+        first: &mut u64,
+        second: &mut u64,
+        at: &mut u64,
+        letter: &mut u8,
+    ) -> u32;
 }

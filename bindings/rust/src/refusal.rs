@@ -87,9 +87,9 @@ reasons! {
         "joints, start, hint, tips and an angle that is asked for must be finite, in a division and in a job that is \
          written tool axes too";
     TooLarge = 17,
-        "sizes must be at most 100,000 mm (tip, pivot, tool length), 10,000,000 mm (joint position), 36,000 degrees \
-         (angle, rest angle, hint), 100,000 poses, 65,536 bytes (a job that is written), 1,000,000,000 inserted \
-         poses (a balance), 800 radians (sine, cosine), 1 (arccosine), and finite (arctangent)";
+        "sizes must be at most 100,000 mm (tip, pivot, tool length, and a solid where links meet), 10,000,000 mm (joint \
+         position), 36,000 degrees (angle, rest angle, hint), 100,000 poses, 65,536 bytes (a job that is written), \
+         1,000,000,000 inserted poses (a balance), 800 radians (sine, cosine), 1 (arccosine), and finite (arctangent)";
     Cone = 18, "the cone must be finite, above 0 and at most 10 degrees";
     Tolerance = 19,
         "the chord tolerance (mm), the axis tolerance (degrees) and the tolerance of a tooth (degrees) must be finite \

@@ -103,7 +103,26 @@ const OF_A_CHAIN: [OfAChain; 13] = [
         assert_eq!(number, if told.number == 0 { 1 } else { 9 });
         told
     }),
+    ("links_meet", |chain| asked_to_meet(chain, &[], &JOINTS)),
 ];
+
+/// The four lent numbers are 0 where none meet, and kept on a refusal.
+fn asked_to_meet(chain: &[u8], model: &[u8], joints: &[f64]) -> Told {
+    let [mut found, mut pose, mut first, mut second] = [9; 4];
+    let told = flat::links_meet(
+        NAME,
+        chain,
+        model,
+        joints,
+        &mut found,
+        &mut pose,
+        &mut first,
+        &mut second,
+    );
+    let kept = if told.number == 0 { 0 } else { 9 };
+    assert_eq!([found, pose, first, second], [kept; 4]);
+    told
+}
 
 /// With another count of rotaries there is nothing to read behind it, and the chain check refuses the count. With the
 /// length of the same count without rest angles, or with them, another chain is read, which is left out here.
@@ -282,6 +301,10 @@ fn of_names_and_models() {
                 29
             }
         );
+        let asked = of_bytes(&column[..length], fence, &|model| {
+            asked_to_meet(&chain, model, &joints)
+        });
+        assert_eq!(asked, told);
         let carrier = of_bytes(&column[..length], fence, &|carrier| {
             flat::link_world(b"mill", &chain, &[], &joints, carrier, &mut [0.0; 12])
         });

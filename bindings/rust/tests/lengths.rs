@@ -486,3 +486,30 @@ fn of_divide_for() {
     };
     every_length(&read, &[32, 90, 75], ask, &whole);
 }
+
+/// The lent numbers go with the answer as its count.
+#[test]
+fn of_links_meet() {
+    let chain = tables().bytes();
+    let ask: Ask = &|r, _| {
+        let [mut found, mut pose, mut first, mut second] = [9; 4];
+        let told = flat::links_meet(
+            b"mill",
+            &chain,
+            &[],
+            r[0],
+            &mut found,
+            &mut pose,
+            &mut first,
+            &mut second,
+        );
+        let expected = if told.number == 0 { 0 } else { 9 };
+        assert_eq!([found, pose, first, second], [expected; 4]);
+        Told {
+            count: found,
+            ..told
+        }
+    };
+    let joints = vec![1.0, 2.0, 3.0, 40.0, 50.0];
+    every_length(&[joints], &[], ask, &|l| l[0].is_multiple_of(5));
+}

@@ -3,10 +3,10 @@
 //
 // Sine, cosine, arctangent and arccosine, of one argument and of slices. A slice form tests every argument before it writes the
 // first answer, so that a refusal leaves the slice as it was. The entries of a chain stand in chain_entries, those of the inverse map
-// in inverse_entries, that of the positioning profile in tooth_entries, those of a model in link_entries, that of a path in
-// path_entries, those that divide in divide_entries, the one that quotes a division in quote_entries, those of quotas in quota_entries,
-// those of a job in job_entries, the one that writes a job in write_entries, those of the extremes beside a path in extremes_entries; a
-// crate above calls all of them from here.
+// in inverse_entries, that of the positioning profile in tooth_entries, those of a model in link_entries, the one that asks whether
+// links meet in meet_entries, that of a path in path_entries, those that divide in divide_entries, the one that quotes a division in
+// quote_entries, those of quotas in quota_entries, those of a job in job_entries, the one that writes a job in write_entries, those of
+// the extremes beside a path in extremes_entries; a crate above calls all of them from here.
 mod chain_entries;
 mod divide_entries;
 mod extremes_entries;
@@ -14,6 +14,7 @@ mod inverse_entries;
 mod job_entries;
 mod lent;
 mod link_entries;
+mod meet_entries;
 mod path_entries;
 mod quote_entries;
 mod quota_entries;
@@ -35,6 +36,7 @@ pub use job_entries::maztubel_read_job;
 pub use link_entries::maztubel_check_model;
 pub use link_entries::maztubel_link_in_part;
 pub use link_entries::maztubel_link_world;
+pub use meet_entries::maztubel_links_meet;
 pub use path_entries::maztubel_solve_path;
 pub use quote_entries::maztubel_quote;
 pub use quota_entries::maztubel_divide_for;

@@ -83,6 +83,33 @@ pub fn link_in_part(case: &[u8], joints: &[f64], frame: &mut [f64]) {
     told::end();
 }
 
+pub fn links_meet(case: &[u8], joints: &[f64]) {
+    let mut found: u64 = 7;
+    let mut pose: u64 = 7;
+    let mut first: u64 = 7;
+    let mut second: u64 = 7;
+    let mut at: u64 = 7;
+    let mut letter: u8 = 7;
+    let number = maztubel::maztubel_links_meet(
+        part(case, NAME),
+        chain_or_job(case),
+        part(case, MODEL),
+        joints,
+        &mut found,
+        &mut pose,
+        &mut first,
+        &mut second,
+        &mut at,
+        &mut letter,
+    );
+    told::begin(b"links_meet", number, at, letter);
+    told::count(found);
+    told::count(pose);
+    told::count(first);
+    told::count(second);
+    told::end();
+}
+
 pub fn inverse(case: &[u8], pose: &[f64], hint: &[f64], list: &mut [f64]) {
     let mut count: u64 = 7;
     let mut at: u64 = 7;

@@ -99,6 +99,7 @@ fn call(case: &[u8], first: &[f64], second: &[f64], lent: &mut [f64], other: &mu
         22 => quotas::grant(case),
         23 => quotas::divide_for(case, first, second, lent, other),
         24 => entries::choose_tooth(case, first, second, lent),
+        25 => entries::links_meet(case, first),
         _ => told::unknown(),
     }
 }

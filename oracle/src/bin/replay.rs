@@ -32,7 +32,7 @@ mod sample {
     use oracle::replayed_quotas;
     use oracle::{cases, inverse_cases};
     use oracle::{replayed_calls, replayed_extremes, replayed_functions};
-    use oracle::{replayed_jobs, replayed_quotes};
+    use oracle::{replayed_jobs, replayed_meetings, replayed_quotes};
     use std::collections::BTreeMap;
     use std::fs;
     use std::path::Path;
@@ -146,6 +146,7 @@ mod sample {
         all.extend(of_extremes());
         all.push(of_quotes());
         all.push(of_teeth());
+        all.push(of_meetings());
         all
     }
 
@@ -268,6 +269,11 @@ mod sample {
             &[&CHAIN, &refused],
             replayed_calls::of_teeth,
         )
+    }
+
+    fn of_meetings<'a>() -> Entry<'a> {
+        let refusals: [&[u32]; 3] = [&CHAIN, &MODEL, &[16, 17, 20]];
+        Entry::new("links_meet", 100, &refusals, replayed_meetings::of_meeting).longer(6)
     }
 
     /// Every job of examples/jobs stands before what is drawn, and behind it, once for each call that divides or quotes, 27.

@@ -38,7 +38,7 @@ pub struct Given {
 /// With its name.
 type Export = (&'static str, fn(&mut Given) -> u32);
 
-pub const EXPORTS: [Export; 27] = [
+pub const EXPORTS: [Export; 28] = [
     ("sine", |g| maztubel::maztubel_sine(0.5, &mut g.numbers[0])),
     ("cosine", |g| {
         maztubel::maztubel_cosine(0.5, &mut g.numbers[0])
@@ -164,6 +164,12 @@ pub const EXPORTS: [Export; 27] = [
             joints: &JOINTS,
         };
         maztubel::divide_for(&mut g.balances, 31, solved, [1.0; 2], lent)
+    }),
+    ("links_meet", |g| {
+        let [pose, first, second] = g.places.each_mut();
+        let lent = [&mut g.count, pose, first, second];
+        let machine = machine(&g.chain, &g.model);
+        maztubel::links_meet(machine, &JOINTS, lent, &mut g.at, &mut g.letter)
     }),
 ];
 

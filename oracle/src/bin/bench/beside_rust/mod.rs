@@ -1,10 +1,11 @@
-//! What needs the Rust that is compared: forward, inverse, paths and division beside it, and the memory of both.
+//! What needs the Rust that is compared: forward, inverse, paths, division and links that meet beside it, and the memory of both.
 
 mod exports;
 mod finishing;
 mod forwards;
 mod heap;
 mod inverses;
+mod meetings;
 mod memory;
 mod paths;
 mod program;
@@ -31,11 +32,17 @@ pub fn timed() -> (Vec<Section>, Vec<Row>) {
     sections.extend(paths::sections());
     sections.push(quotations::section());
     sections.push(quotas::section());
+    sections.push(meetings::section());
     for section in &sections {
         show(&section.table());
     }
     let cases = GROWN.map(|count| Case::new(TABLES, count));
-    let grown = [forwards::grown(), inverses::grown(), paths::grown(&cases)];
+    let grown = [
+        forwards::grown(),
+        inverses::grown(),
+        paths::grown(&cases),
+        meetings::grown(),
+    ];
     show(&memory::of_paths(&cases));
     show(&memory::of_exports());
     show(&memory::of_program(&cases[1]));
