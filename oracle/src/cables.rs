@@ -1,5 +1,5 @@
-//! The cable number: cases drawn at random, above all angles that are whole turns from the rest angle and a place beside them, a call
-//! of the export, and what is expected of it. The chain is checked by the Rust, the number is counted in whole numbers.
+//! The cable number: cases drawn at random, above all angles that are whole turns from the rest angle and a place beside them, a
+//! call of the export, and what is expected of it. The chain is checked by the Rust, the number is counted in whole numbers.
 
 use crate::angles::{moved, signed, within};
 use crate::calls::{Guarded, LENT_AT, LENT_LETTER, Told};
@@ -12,8 +12,8 @@ use crate::paths::JOINTS;
 use crate::random::Random;
 use crate::reading;
 use crate::reference::{
-    LENGTHS_DIFFER, NOT_FINITE, Refusal, TOO_LARGE, bare, finite, joints_fit, malformed,
-    chain_fits, refusal, refused as refused_with,
+    LENGTHS_DIFFER, NOT_FINITE, Refusal, TOO_LARGE, bare, chain_fits, finite, joints_fit,
+    malformed, refusal, refused as refused_with,
 };
 use crate::rust::ported;
 use std::fmt;
@@ -108,7 +108,8 @@ fn damage(all: &mut Vec<f64>, random: &mut Random) {
     }
 }
 
-/// The largest whole k with 360 k at most the size of a finite difference: that many times 360 are in its whole part, since 360 is whole.
+/// The largest whole k with 360 k at most the size of a finite difference: that many times 360 are in its whole part, since 360 is
+/// whole.
 pub fn turns(wind: f64) -> u64 {
     let bits = wind.to_bits() & (u64::MAX >> 1);
     let (exponent, digits) = (bits >> 52, bits & ((1 << 52) - 1));

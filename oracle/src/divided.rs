@@ -11,7 +11,7 @@ use crate::maztubel::{self, Course, Lent, Solved};
 use crate::original::ported::kinematics::FiveAxisSetup;
 use crate::paths::{JOINTS, POSE, Path};
 use crate::reading;
-use crate::reference::{bare, finite, joints_fit, chain_fits, refusal};
+use crate::reference::{bare, chain_fits, finite, joints_fit, refusal};
 use crate::rust::ported;
 use crate::solved::{self, MOST_POSES, far};
 use std::fmt;

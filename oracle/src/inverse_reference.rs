@@ -5,8 +5,8 @@ use crate::inverse_cases::{Case, Entry, HINT, MOST_TIP, POSE};
 use crate::joints::{MOST_ANGLE, MOST_TOOL};
 use crate::reading;
 use crate::reference::{
-    LENGTHS_DIFFER, NOT_FINITE, NOT_REACHABLE, OUTSIDE_LIMITS, Refusal, TOO_LARGE, bare, exceeds,
-    finite, malformed, chain_fits, refusal, refused,
+    LENGTHS_DIFFER, NOT_FINITE, NOT_REACHABLE, OUTSIDE_LIMITS, Refusal, TOO_LARGE, bare,
+    chain_fits, exceeds, finite, malformed, refusal, refused,
 };
 use crate::rust::{ported, untouched};
 

@@ -55,7 +55,11 @@ fn lines(chain: &Chain, joints: &[f64], inserted: usize) -> String {
     let most_turns = |rotary: usize| {
         let winds = cables::winds(chain, joints, rotary);
         let most = winds.map(cables::turns).max().unwrap_or(0);
-        if rotary < usize::from(chain.count) { most } else { 0 }
+        if rotary < usize::from(chain.count) {
+            most
+        } else {
+            0
+        }
     };
     let mut text = format!(
         "poses {} inserted {inserted} turns {} {}\n",

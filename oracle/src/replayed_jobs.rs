@@ -9,8 +9,8 @@ use crate::joints::{MOST_ANGLE, joints, sound_joints};
 use crate::random::Random;
 use crate::reading;
 use crate::reference::{
-    LENGTHS_DIFFER, NOT_FINITE, Refusal, TOO_LARGE, bare, chain_fits, finite, joints_fit, malformed,
-    refusal, refused,
+    LENGTHS_DIFFER, NOT_FINITE, Refusal, TOO_LARGE, bare, chain_fits, finite, joints_fit,
+    malformed, refusal, refused,
 };
 use crate::replayed::{FILLED, FILLED_COUNT, Given, Line, Replayed};
 use crate::rust::ported;

@@ -41,7 +41,7 @@ pub struct Soak {
 type Part = fn(&mut Soak, &mut Random);
 
 /// Of the parts six divide, half of the time each of the two entries, and three solve paths: their calls take longest.
-const ROUND: [Part; 23] = [
+const ROUND: [Part; 26] = [
     Soak::waves,
     Soak::chains,
     Soak::inverses,
@@ -72,7 +72,7 @@ const ROUND: [Part; 23] = [
 
 /// One round in so many, the second of them first, has the cases that take longer.
 const ROUNDS: u64 = 32;
-const LONG: [Part; 6] = [
+const LONG: [Part; 8] = [
     Soak::long_paths,
     Soak::exact_divisions,
     Soak::long_divisions,

@@ -9,7 +9,7 @@ use crate::maztubel::{self, Course};
 use crate::original::ported::kinematics::FiveAxisSetup;
 use crate::paths::{JOINTS, MOST_TIP, POSE, Path};
 use crate::reading;
-use crate::reference::{bare, exceeds, finite, joints_fit, chain_fits, refusal};
+use crate::reference::{bare, chain_fits, exceeds, finite, joints_fit, refusal};
 use crate::rust::ported;
 use crate::stops;
 

@@ -281,7 +281,9 @@ fn refused(case: &Case, number: u32) -> Vec<&'static str> {
         }
         17 => {
             let chain = reading::chain(&case.chain).expect("a chain that is read");
-            let rest = chain.present().any(|rotary| exceeds(rotary.rest, MOST_REST));
+            let rest = chain
+                .present()
+                .any(|rotary| exceeds(rotary.rest, MOST_REST));
             let tip = tip(|x| exceeds(x, MOST_TIP));
             let met = [
                 (14, !chain_fits(&chain) && !rest),

@@ -13,7 +13,7 @@ use crate::paths::{MOST_TIP, POSE};
 use crate::random::Random;
 use crate::reading;
 use crate::reference::{
-    LENGTHS_DIFFER, NOT_FINITE, Refusal, TOO_LARGE, bare, exceeds, finite, malformed, chain_fits,
+    LENGTHS_DIFFER, NOT_FINITE, Refusal, TOO_LARGE, bare, chain_fits, exceeds, finite, malformed,
     refusal, refused,
 };
 use crate::rust::ported;

@@ -80,7 +80,10 @@ impl Chain {
     pub fn bytes(&self) -> Vec<u8> {
         let mut bytes = vec![u8::try_from(self.rotaries.len()).unwrap_or(u8::MAX)];
         bytes.extend([0; 7]);
-        let rested = self.rotaries.iter().any(|rotary| rotary.rest.to_bits() != 0);
+        let rested = self
+            .rotaries
+            .iter()
+            .any(|rotary| rotary.rest.to_bits() != 0);
         for rotary in &self.rotaries {
             rotary.append(&mut bytes);
             if rested {

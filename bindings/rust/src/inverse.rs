@@ -131,6 +131,7 @@ pub fn choose(
 ///         axis: [0.0, 0.0, 1.0],
 ///         pivot: [0.0; 3],
 ///         limits: None,
+///         rest: 0.0,
 ///     }],
 ///     spindle: [1.0, 0.0, 0.0],
 /// };

@@ -48,7 +48,9 @@ impl Job {
         let mut poses = vec![Pose::default(); parts.count as usize];
         flat::job_poses(bytes, flat::numbers_mut(&mut poses)).served()?;
         Ok(Job {
-            chain: Chain::from_bytes(&bytes[parts.chain_at as usize..][..parts.chain_length as usize])?,
+            chain: Chain::from_bytes(
+                &bytes[parts.chain_at as usize..][..parts.chain_length as usize],
+            )?,
             poses,
             cone: parts.cone,
             tolerances: Tolerances {

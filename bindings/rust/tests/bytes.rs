@@ -39,7 +39,7 @@ const NAME: &[u8] = b"mill";
 type OfAChain = (&'static str, fn(&[u8]) -> Told);
 
 /// Every entry that reads a chain, the rest sound.
-const OF_A_CHAIN: [OfAChain; 13] = [
+const OF_A_CHAIN: [OfAChain; 16] = [
     ("check_chain", flat::check_chain),
     ("forward", |chain| {
         flat::forward(chain, &JOINTS, 10.0, &mut [0.0; 6])
@@ -138,7 +138,7 @@ fn of_chains() {
         (3, None, None),
     ] {
         let mut chain = if count == 1 { table_a() } else { tables() };
-        chain.rotaries[0].rest = if whole < other { 0.0 } else { 0.25 };
+        chain.rotaries[0].rest = if whole < other { 0.0 } else { -0.25 };
         let mut long = chain.bytes();
         assert!(whole.is_none_or(|whole| whole == long.len()));
         long.resize(200, 0);

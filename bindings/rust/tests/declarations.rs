@@ -209,8 +209,8 @@ const FAULTS: [(&str, &str); 9] = [
         "uint32_t rotary, uint64_t *number,",
     ),
     (
-        "uint64_t *chain_at, uint64_t *poses_at,",
-        "uint64_t *poses_at, uint64_t *chain_at,",
+        "uint64_t *chain_at, uint64_t *chain_length,",
+        "uint64_t *chain_length, uint64_t *chain_at,",
     ),
     ("(const double *cs, size_t cs_length,", "(const double *cs,"),
     (

@@ -15,7 +15,7 @@ le-size (inf false) h = unfold le in unfold lt in unfold eq in refl
 le-size (fin true m e) h = unfold le in unfold lt in unfold eq in order.from true (m * up e * down e) false (m * up e * down e) tt
 le-size (fin false m e) h = order.le-refl (fin false m e) h
 
-size-neg : (x : Float) → sizeOf (neg x) ≡ sizeOf x
+pub size-neg : (x : Float) → sizeOf (neg x) ≡ sizeOf x
 unfolding neg sizeOf
 size-neg nan = refl
 size-neg (inf s) = refl

@@ -52,9 +52,6 @@ pi-up-to : UpTo 4 pi
 unfolding ofBits U
 pi-up-to = record { s = false; v = 884279719003555 * 2 ^ 1026; is = (refl, refl); most = lit≤ tt }
 
-one-up-to : UpTo 1 one
-one-up-to = one-small
-
 -- ---- each function is served, for t up to 1 in size
 module _ (t : Float) (B : UpTo 1 t) where
   half-plain : (start : Vec3) → halfTurn start t ≡ plainHalfTurn start t
@@ -66,7 +63,7 @@ module _ (t : Float) (B : UpTo 1 t) where
   weighted-plain : (start end : Vec3) (theta sinTheta : Float) → UpTo 4 theta → weighted start end theta sinTheta t ≡ plainWeighted start end theta sinTheta t
   unfolding weighted
   weighted-plain start end theta sinTheta A =
-      let r = up-to-served 8 (times (minus one t) theta) (lit≤ tt) (up-to-mul 2 4 (minus one t) theta (lit< tt) (up-to-sub 1 1 one t (lit< tt) one-up-to B) A) in
+      let r = up-to-served 8 (times (minus one t) theta) (lit≤ tt) (up-to-mul 2 4 (minus one t) theta (lit< tt) (up-to-sub 1 1 one t (lit< tt) one-small B) A) in
       let s = up-to-served 4 (times t theta) (lit≤ tt) (up-to-mul 1 4 t theta (lit< tt) B A) in
       rw (sine-is (times (minus one t) theta) r, sine-is (times t theta) s)
 

@@ -124,23 +124,20 @@ sp2-within wa wb p q =
     chosen FixedPairs (Ieee.le (norm perp) shortest) _ _ (λ e. (tt, tt)) (λ e. point-within wa wb p q perp (norm perp) (dot wa wb) (dot wa q) (norm (squarePart q wa (dot wa q))))
 
 -- ---- the signs are 1 and -1
-one-up-to : UpTo 1 one
-one-up-to = one-small
-
 minus-up-to : UpTo 1 minusOne
-minus-up-to = up-to-neg 1 one one-up-to
+minus-up-to = up-to-neg 1 one one-small
 
 abbrev pub Signs : AxisMap → Type 0
 Signs m = UpTo 1 (m .«x_sign») × UpTo 1 (m .«y_sign»)
 
 map-signs : (a b : Mount) (v w : Vec3) → Signs (mapOf a b v w)
 map-signs Table Table v w = (minus-up-to, minus-up-to)
-map-signs Table Head v w = (minus-up-to, one-up-to)
-map-signs Table Absent v w = (minus-up-to, one-up-to)
-map-signs Head Table v w = (minus-up-to, one-up-to)
-map-signs Head Head v w = (one-up-to, one-up-to)
-map-signs Head Absent v w = (one-up-to, one-up-to)
-map-signs Absent b v w = (one-up-to, one-up-to)
+map-signs Table Head v w = (minus-up-to, one-small)
+map-signs Table Absent v w = (minus-up-to, one-small)
+map-signs Head Table v w = (minus-up-to, one-small)
+map-signs Head Head v w = (one-small, one-small)
+map-signs Head Absent v w = (one-small, one-small)
+map-signs Absent b v w = (one-small, one-small)
 
 pub axis-signs : (p : Prepared) → Signs (axisMapOf p)
 unfolding axisMapOf
@@ -148,8 +145,8 @@ axis-signs p = map-signs (p .first .mount) (p .second .mount) (p .first .axis) (
 
 mount-sign : (m : Mount) → UpTo 1 (signOf m)
 mount-sign Table = minus-up-to
-mount-sign Head = one-up-to
-mount-sign Absent = one-up-to
+mount-sign Head = one-small
+mount-sign Absent = one-small
 
 -- ---- the raw angles
 abbrev pub PairUpTo : ℕ → Angles → Type 0
@@ -184,7 +181,7 @@ one-within Solved.Nothing sign hint A S H = tt
 
 sigma-up-to : (m : AxisMap) → UpTo 1 (sigmaOf m)
 unfolding sigmaOf
-sigma-up-to m = chosen (UpTo 1) (Ieee.le nought (dot (m .wa) (m .wb))) _ _ (λ e. one-up-to) (λ e. minus-up-to)
+sigma-up-to m = chosen (UpTo 1) (Ieee.le nought (dot (m .wa) (m .wb))) _ _ (λ e. one-small) (λ e. minus-up-to)
 
 module _ (m : AxisMap) (S : Signs m) (hint : Angles) (H : PairUpTo 36000 hint) where
   shared-within : (total sigma : Float) → UpTo 180 total → UpTo 1 sigma → PairUpTo 36180 (sharedTurn m total sigma hint)

@@ -19,6 +19,7 @@ use lib.Ieee.Order.{round-mono}
 use Rattle.float.proofs.Bounded.{clamp-fits}
 use Rattle.float.proofs.Commute.{mul-commutes}
 use Rattle.float.proofs.Order as order
+use Rattle.float.proofs.Sizes.{size-neg}
 use Rattle.trig.specs.declared.Answer.{Answer}
 use Rattle.trig.specs.declared.Answer.the-variants.{Value, OutOfRange}
 use Rattle.geometry.specs.declared.Vec3.{Vec3}
@@ -394,12 +395,6 @@ least-of c f w h OutOfRange i = tt
 turned-round : (c : Float) → mul binary64 (sub binary64 one (neg c)) (add binary64 one (neg c)) ≡ mul binary64 (sub binary64 one c) (add binary64 one c)
 unfolding sub
 turned-round c = ap (λ (z : Float). mul binary64 (add binary64 one z) (add binary64 one (neg c))) (order.neg-neg c) ∙ mul-commutes binary64 (add binary64 one c) (add binary64 one (neg c))
-
-size-neg : (x : Float) → sizeOf (neg x) ≡ sizeOf x
-unfolding neg sizeOf
-size-neg nan = refl
-size-neg (inf s) = refl
-size-neg (fin s m e) = refl
 
 left : (a b : Bool) → (a && b) ≡ true → a ≡ true
 left true b h = refl

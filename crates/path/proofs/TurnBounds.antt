@@ -7,8 +7,7 @@ use Prim.Native.Nat.{ℕ, suc, _*_, _≤_}
 use lib.Dec.{lit≤, lit<}
 use lib.ListN.{length}
 use lib.Ieee as Ieee
-use lib.Ieee.{Float, ofBits}
-use Rattle.float.specs.Units.{U, Is}
+use lib.Ieee.{Float}
 use Rattle.float.specs.Helpers.{nought}
 use Rattle.float.proofs.UpTo.{UpTo, up-to-more, up-to-mul, size-up-to}
 use Rattle.trig.proofs.Choices.{chosen}
@@ -23,6 +22,7 @@ use Rattle.chain.specs.declared.Kinematics.{Kinematics}
 use Rattle.chain.specs.declared.Prepared.{Prepared}
 use Rattle.chain.specs.declared.ToolPose.{ToolPose}
 use Rattle.chain.specs.Check.{within, mostTurned}
+use Rattle.chain.proofs.NeverFallback.{most-turned}
 use Rattle.inverse.specs.Subproblem.{shortest, sp1}
 use Rattle.inverse.specs.AxisMap.{axisMapOf, placed, hintX, hintY}
 use Rattle.inverse.specs.Orientation.{orientationAngles}
@@ -257,10 +257,6 @@ pose-turns s previous P = record {
 }
 
 -- ---- along the path
-most-turned : Is mostTurned false (36000 * U)
-unfolding ofBits U
-most-turned = (refl, refl)
-
 turned-back : (j : Joints) → Turned j → turnedWithin j ≡ true → PairUpTo 36000 (anglesOf j)
 unfolding turnedWithin within
 turned-back j A h =

@@ -47,7 +47,7 @@ before-end [] = refl
 before-end (k ∷ l) = ap (thenOn k) (before-end l)
 
 -- ---- a joint set stored
-joints-sets : (j : Joints) (l : List Float) (b : ℕ) → jointsOver j l b ≡ sets l b (jointNumbers j)
+pub joints-sets : (j : Joints) (l : List Float) (b : ℕ) → jointsOver j l b ≡ sets l b (jointNumbers j)
 unfolding jointsOver
 joints-sets j l b = simp towards-suc
 

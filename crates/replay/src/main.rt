@@ -4,8 +4,8 @@ mod cases;
 mod entries;
 mod functions;
 mod paths;
-mod quotes;
 mod quotas;
+mod quotes;
 mod summaries;
 mod told;
 

@@ -12,6 +12,7 @@ use Rattle.lists.proofs.Rows.{length-table, getD-table, take-table, set-table}
 use Rattle.chain.specs.declared.Joints.{Joints}
 use Rattle.chain.specs.declared.ToolPose.{ToolPose}
 use Rattle.path.specs.Solving.{poseFrom, poseIn, jointNumbers, jointsOver}
+use Rattle.path.proofs.Walking.{joints-sets}
 use Rattle.turn.specs.Items.{jointsFrom, jointsIn, poseNumbers, poseOver, item, itemAt, itemsIn, posesWith, jointsWith}
 use Rattle.turn.specs.Turning.{absent}
 use Rattle.middle.specs.declared.Item.{Item}
@@ -56,10 +57,6 @@ items-take j n p q h = take-table 6 poseFrom 5 jointsFrom item j n p q h
 pose-sets : (x : ToolPose) (l : List Float) (b : ℕ) → poseOver x l b ≡ sets l b (poseNumbers x)
 unfolding poseOver
 pose-sets x l b = simp towards-suc
-
-joints-sets : (j : Joints) (l : List Float) (b : ℕ) → jointsOver j l b ≡ sets l b (jointNumbers j)
-unfolding jointsOver
-joints-sets j l b = simp towards-suc
 
 pub poses-with-long : (t : Item) (p : List Float) (i : ℕ) → length (posesWith t p i) ≡ length p
 unfolding posesWith poseOver

@@ -82,7 +82,12 @@ pub fn job_bytes(chain: &Chain, poses: &[Pose]) -> Vec<u8> {
 /// the tolerances.
 pub fn packed(chain: &[u8], poses: &[f64], numbers: [f64; 3]) -> Vec<u8> {
     let rested = [112, 192].contains(&chain.len());
-    let words = [0, chain.len() as u32, poses.len() as u32 / 6, u32::from(rested)];
+    let words = [
+        0,
+        chain.len() as u32,
+        poses.len() as u32 / 6,
+        u32::from(rested),
+    ];
     [
         chain.to_vec(),
         poses

@@ -166,8 +166,7 @@ pub const EXPORTS: [Export; 28] = [
         maztubel::divide_for(&mut g.balances, 31, solved, [1.0; 2], lent)
     }),
     ("links_meet", |g| {
-        let [pose, first, second] = g.places.each_mut();
-        let lent = [&mut g.count, pose, first, second];
+        let lent = g.places.each_mut();
         let machine = machine(&g.chain, &g.model);
         maztubel::links_meet(machine, &JOINTS, lent, &mut g.at, &mut g.letter)
     }),

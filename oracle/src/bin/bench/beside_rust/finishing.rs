@@ -78,9 +78,13 @@ pub const BOTH: Entry = Entry {
 impl Case {
     /// About as many poses are inserted as given, where they may be.
     pub fn new(machine: (&'static str, [u8; 2]), count: usize) -> Self {
-        Case::inserting(machine, count, count.min(MOST_INSERTED))
+        let case = Case::inserting(machine, count, count.min(MOST_INSERTED));
+        let rusts = case.handed().subdivide(&case.handed().joints) - case.given();
+        assert_eq!(rusts, case.inserted, "the Rust inserts another number");
+        case
     }
 
+    /// The untouched Rust may insert a few more or fewer: deep down a gap is as large as a tolerance to the last bits.
     pub fn inserting(
         (words, carriers): (&'static str, [u8; 2]),
         count: usize,
@@ -132,8 +136,6 @@ impl Case {
         self.tolerances = [1.000_001 * loose, 10.000_01 * loose];
         assert_eq!(self.subdivide(&mut space), 0, "a path was refused");
         self.inserted = space.inserted as usize;
-        let rusts = self.handed().subdivide(&self.handed().joints) - self.given();
-        assert_eq!(rusts, self.inserted, "the Rust inserts another number");
     }
 
     /// As it is where the time is taken.
