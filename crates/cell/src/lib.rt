@@ -16,7 +16,7 @@ use turn::Machine;
 pub use turning::turn;
 
 // A path that waits: the lengths of its outputs, its chain, its two tolerances, and its machine.
-#[derive(Drop)]
+#[derive(Clone, Copy)]
 pub struct Entry {
     pub room_poses: usize,
     pub room_joints: usize,
@@ -27,7 +27,7 @@ pub struct Entry {
 }
 
 // What admission answers: a refusal that changes nothing, 28 (the outputs are cleared), or the path's number.
-#[derive(Drop)]
+#[derive(Clone, Copy)]
 pub enum Admission {
     Refused(Refusal),
     NoSpace,
@@ -35,14 +35,14 @@ pub enum Admission {
 }
 
 // What 64 tests leave: a machine that goes on, or an end.
-#[derive(Drop)]
+#[derive(Clone, Copy)]
 pub enum Outcome {
     Still(Machine),
     Over(Divided),
 }
 
 // What a turn answers: a refusal that changes nothing, no path, or the path's number with what the turn left.
-#[derive(Drop)]
+#[derive(Clone, Copy)]
 pub enum Served {
     Refused(Refusal),
     Nobody,
@@ -50,7 +50,7 @@ pub enum Served {
 }
 
 // What a question answers: a refusal, or a number.
-#[derive(Drop)]
+#[derive(Clone, Copy)]
 pub enum Asked {
     Refused(Refusal),
     Number(u64),

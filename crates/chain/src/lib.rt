@@ -1,5 +1,7 @@
 // The rotary chain: one or two rotaries and the spindle, its bytes, its checks, and the forward map (impl Kinematics of the Rust). A chain goes in by value. What computes is total; what refuses is one list
 // of checks for each call (specs/Check.antt).
+#![tactic(auto)]
+
 mod bytes_at;
 mod chain_bytes;
 mod checks;
@@ -22,20 +24,20 @@ pub use prepare_chain::{checked_chain, prepare};
 use refusal::Refusal;
 
 // Which slide carries a rotary: a table turns the work, a head the tool.
-#[derive(Drop)]
+#[derive(Clone, Copy)]
 pub enum Carrier {
     Table,
     Head,
 }
 
 // Travel limits in degrees, both ends within.
-#[derive(Drop)]
+#[derive(Clone, Copy)]
 pub struct RotaryLimits {
     pub min: f64,
     pub max: f64,
 }
 
-#[derive(Drop)]
+#[derive(Clone, Copy)]
 pub enum Travel {
     Unlimited,
     Within(RotaryLimits),
@@ -44,7 +46,7 @@ pub enum Travel {
 // A pivot is a point on the axis: of a table in machine coordinates at zero angles, of a head relative to the gauge
 // point at zero head angles. The rest is the angle at which the cable hangs free: cable turns are counted from it, and
 // nothing else reads it.
-#[derive(Drop)]
+#[derive(Clone, Copy)]
 pub struct RotaryJoint {
     pub letter: u8,
     pub carrier: Carrier,
@@ -55,7 +57,7 @@ pub struct RotaryJoint {
 }
 
 // Outer joints first within each carrier. `second` is read only where `count` is 2.
-#[derive(Drop)]
+#[derive(Clone, Copy)]
 pub struct Kinematics {
     pub count: u8,
     pub first: RotaryJoint,
@@ -64,7 +66,7 @@ pub struct Kinematics {
 }
 
 // The gauge point's position, and an angle for each rotary, in degrees.
-#[derive(Drop)]
+#[derive(Clone, Copy)]
 pub struct Joints {
     pub xyz: Vec3,
     pub a0: f64,
@@ -72,21 +74,21 @@ pub struct Joints {
 }
 
 // The tool's tip, and its axis from the tip toward the spindle, in the part frame.
-#[derive(Drop)]
+#[derive(Clone, Copy)]
 pub struct ToolPose {
     pub tip: Vec3,
     pub axis: Vec3,
 }
 
 // What a check answers.
-#[derive(Drop)]
+#[derive(Clone, Copy)]
 pub enum Checked {
     Passed,
     Refused(Refusal),
 }
 
 // How a prepared rotary moves: the second rotary of a chain of one is absent.
-#[derive(Drop)]
+#[derive(Clone, Copy)]
 pub enum Mount {
     Table,
     Head,
@@ -94,7 +96,7 @@ pub enum Mount {
 }
 
 // A rotary with its unit axis.
-#[derive(Drop)]
+#[derive(Clone, Copy)]
 pub struct Spin {
     pub mount: Mount,
     pub axis: Vec3,
@@ -102,7 +104,7 @@ pub struct Spin {
 }
 
 // A checked chain with every axis normalised, once for a call.
-#[derive(Drop)]
+#[derive(Clone, Copy)]
 pub struct Prepared {
     pub first: Spin,
     pub second: Spin,
@@ -110,41 +112,41 @@ pub struct Prepared {
 }
 
 // For each rotary its turn: by which `forward` moves it, a head forth, a table back (turns_of); or a table forth, as the position needs it (forth_from).
-#[derive(Drop)]
+#[derive(Clone, Copy)]
 pub struct Turns {
     pub first: Turn,
     pub second: Turn,
 }
 
-#[derive(Drop)]
+#[derive(Clone, Copy)]
 pub enum Posed {
     At(ToolPose),
     Refused(Refusal),
 }
 
 // What a chain's bytes hold.
-#[derive(Drop)]
+#[derive(Clone, Copy)]
 pub enum ChainRead {
     Chain(Kinematics),
     Refused(Refusal),
 }
 
 // A chain from its bytes: one that passes every check of its own, prepared, or one that some check refuses.
-#[derive(Drop)]
+#[derive(Clone, Copy)]
 pub enum Ready {
     Served(Prepared),
     Unserved,
 }
 
 // An axis with length 1, and whether it has a direction.
-#[derive(Drop)]
+#[derive(Clone, Copy)]
 struct Heading {
     unit: Vec3,
     directed: bool,
 }
 
 // A chain's check, and the chain prepared: of use only where the check passed.
-#[derive(Drop)]
+#[derive(Clone, Copy)]
 pub struct CheckedChain {
     pub checked: Checked,
     pub prepared: Prepared,

@@ -1,5 +1,7 @@
 // The two calls that divide: poses put between the given ones until two tolerances hold at the middle of every two neighbours (subdivide_path of the Rust), and the same of poses that are solved first. This crate has their checks,
 // and what the price list states of their answers; what they hand the checked path to is crate machine.
+#![tactic(auto)]
+
 mod both;
 mod checking;
 mod subdividing;
@@ -11,7 +13,7 @@ use refusal::Refusal;
 pub use subdividing::subdivide_path;
 
 // What a call that divides answers: a refusal before the first test, one at a pose that was to be solved, or how the division ended.
-#[derive(Drop)]
+#[derive(Clone, Copy)]
 pub enum Division {
     Refused(Refusal),
     AtPose(Refusal),

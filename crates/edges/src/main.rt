@@ -2,6 +2,8 @@
 //
 // What it must write, `stdout`, was computed by Rust's standard library. To make it again, in oracle/:
 //     cargo run --release --bin edges > ../crates/edges/stdout
+#![tactic(auto)]
+
 use float::Comparison;
 
 mod values;

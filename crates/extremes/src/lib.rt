@@ -1,6 +1,8 @@
 // Extremes beside a path: for every 64 joint sets the smallest and the largest of each of the five numbers, by
 // totalOrder. They are built, kept right when one joint set is replaced, and asked which joint set is the first with
 // an angle above a given one.
+#![tactic(auto)]
+
 mod asking;
 mod checking;
 mod entries;
@@ -12,14 +14,14 @@ pub use entries::{ask, build, replace};
 use refusal::Refusal;
 
 // The smallest and the largest of each number of a group of joint sets.
-#[derive(Drop)]
+#[derive(Clone, Copy)]
 pub struct Extremes {
     pub low: Joints,
     pub high: Joints,
 }
 
 // The index of the first joint set with an angle above the given one.
-#[derive(Drop)]
+#[derive(Clone, Copy)]
 pub enum Asked {
     At(usize),
     NoneAbove,

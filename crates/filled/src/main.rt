@@ -4,6 +4,8 @@
 //
 // What it must write, `stdout`, was computed by the Rust with this library's turns. To make it again, in oracle/:
 //     cargo run --release --bin filled > ../crates/filled/stdout
+#![tactic(auto)]
+
 ghost use Rattle.std.specs.Prelude.{◌≡◌};
 ghost use Rattle.machine.specs.Filling.{filling, after};
 

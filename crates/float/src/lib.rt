@@ -1,11 +1,13 @@
 // Total functions on every f64: what Rust's standard library gives the kinematics, but for the square root, which is crate root. Each answers a definition of specs/ at every float, the nan and the infinities among them.
+#![tactic(auto)]
+
 ghost use Rattle.std.specs.Prelude.{◌≡◌, true, false};
 ghost use Rattle.std.specs.Float.Ieee.{lt, eq};
 ghost use Rattle.std.specs.Float.Ieee.Scale.{finite as is_finite};
 ghost use Rattle.float.specs.Helpers as S;
 ghost use Rattle.float.specs.TotalOrder as Total;
 
-#[derive(Drop)]
+#[derive(Clone, Copy)]
 pub enum Comparison {
     Less,
     Equal,

@@ -1,5 +1,7 @@
 // Vectors, directions, turns and rigid placements, operation by operation in the order of the Rust (top of kinematics.rs, geom.rs). Structs of numbers go in and come out by value.
 // Every function is total: where a step of the Rust could give nothing, its caller opens an enum.
+#![tactic(auto)]
+
 mod normal;
 mod placement;
 mod rotation;
@@ -11,7 +13,7 @@ pub use rotation::{rotate_point, rotate_vector};
 pub use slerp::{angle_between_deg, slerp_axis};
 pub use vector::{add, cross, dot, gap_vec, lerp_vec, norm, scale, sub};
 
-#[derive(Drop)]
+#[derive(Clone, Copy)]
 pub struct Vec3 {
     pub x: f64,
     pub y: f64,
@@ -19,21 +21,21 @@ pub struct Vec3 {
 }
 
 // The unit vector of a direction, or none: see unit_direction.
-#[derive(Drop)]
+#[derive(Clone, Copy)]
 pub enum Direction {
     Unit(Vec3),
     Nowhere,
 }
 
 // The sine and cosine of an angle, by which a vector is turned.
-#[derive(Drop)]
+#[derive(Clone, Copy)]
 pub struct Turn {
     pub sine: f64,
     pub cosine: f64,
 }
 
 // A placement: a point goes to origin + x * axis_x + y * axis_y + z * axis_z.
-#[derive(Drop)]
+#[derive(Clone, Copy)]
 pub struct Rigid {
     pub origin: Vec3,
     pub axis_x: Vec3,

@@ -1,4 +1,6 @@
 // A job: its bytes, the cable number of a rotary on its path, and the text of its answer. Everything is read from lent bytes and numbers; a refusal keeps all that is lent.
+#![tactic(auto)]
+
 mod job_bytes;
 mod lending;
 mod placing;
@@ -17,7 +19,7 @@ pub use winding::cable_number;
 
 // What the trailer says: where chain and poses start, counted from the first byte of the file, how many poses there are,
 // and a word: 1 where each rotary's record has a rest angle, 0 where none has.
-#[derive(Drop)]
+#[derive(Clone, Copy)]
 pub struct Places {
     pub chain: u32,
     pub poses: u32,
@@ -26,7 +28,7 @@ pub struct Places {
 }
 
 // A job without its poses, which stay in the bytes.
-#[derive(Drop)]
+#[derive(Clone, Copy)]
 pub struct Job {
     pub chain_at: u32,
     pub chain_length: usize,
@@ -38,28 +40,28 @@ pub struct Job {
     pub chain: Kinematics,
 }
 
-#[derive(Drop)]
+#[derive(Clone, Copy)]
 pub enum JobRead {
     Job(Job),
     Refused(Refusal),
 }
 
 // What one reading of a path's joint sets finds: whether all are finite, whether all are within the limits of size, and the most whole turns of a rotary.
-#[derive(Drop)]
+#[derive(Clone, Copy)]
 pub struct Survey {
     pub finite: bool,
     pub within: bool,
     pub turns: u64,
 }
 
-#[derive(Drop)]
+#[derive(Clone, Copy)]
 pub enum Cable {
     Turns(u64),
     Refused(Refusal),
 }
 
 // What the first line of a path's text says beside its length: how many poses were inserted, and the cable numbers of the two rotaries.
-#[derive(Drop)]
+#[derive(Clone, Copy)]
 pub struct Figures {
     pub inserted: u64,
     pub first: u64,
@@ -67,7 +69,7 @@ pub struct Figures {
 }
 
 // How a job ended: with a divided path, or with a refusal, which may be one of a pose.
-#[derive(Drop)]
+#[derive(Clone, Copy)]
 pub enum Ended {
     Divided(Figures),
     Refused(Refusal),
@@ -75,7 +77,7 @@ pub enum Ended {
 }
 
 // How many bytes a text has, or that there is no room for it.
-#[derive(Drop)]
+#[derive(Clone, Copy)]
 pub enum Told {
     Bytes(usize),
     Refused(Refusal),

@@ -1,5 +1,7 @@
 // The machine that halves a path in two lent outputs, turn after turn (crate turn), until no two neighbours divide; and one pair divided by it, after others. It is document 01's halving (crate halving) over the test and the midpoint of
 // crate middle. Below the calls that check what they are lent, so that a wrong machine is refused without the price list's proofs.
+#![tactic(auto)]
+
 mod dividing;
 mod filling;
 
@@ -7,7 +9,7 @@ pub use dividing::{divide_given, divide_solved};
 pub use filling::{fill, fill_pair};
 
 // How a division ended, with the number of poses inserted: all done, one too many (27), or without space (28).
-#[derive(Drop)]
+#[derive(Clone, Copy)]
 pub enum Divided {
     Done(u64),
     TooMany(u64),
@@ -15,7 +17,7 @@ pub enum Divided {
 }
 
 // What the pairs of one path share: the poses inserted so far, and the tolerances (Subdiv of the Rust).
-#[derive(Drop)]
+#[derive(Clone, Copy)]
 pub struct Subdiv {
     pub inserted: u64,
     pub chord: f64,

@@ -7,6 +7,8 @@
 // links meet in meet_entries, that of a path in path_entries, those that divide in divide_entries, the one that quotes a division in
 // quote_entries, those of quotas in quota_entries, those of a job in job_entries, the one that writes a job in write_entries, those of
 // the extremes beside a path in extremes_entries; a crate above calls all of them from here.
+#![tactic(auto)]
+
 mod chain_entries;
 mod divide_entries;
 mod extremes_entries;
@@ -137,14 +139,14 @@ pub extern "C" fn maztubel_arctangents(ys: &[f64], xs: &[f64], answers: &mut [f6
 }
 
 // The frame that a link is placed in: one path serves both entries.
-#[derive(Drop)]
+#[derive(Clone, Copy)]
 enum Seen {
     World,
     Part,
 }
 
 // The functions of one argument, so that one pair of loops serves their slice forms.
-#[derive(Drop)]
+#[derive(Clone, Copy)]
 enum Function {
     Sine,
     Cosine,

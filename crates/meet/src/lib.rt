@@ -2,6 +2,8 @@
 // it. Two links of different carriers meet where their balls are nearer than the sum of the radii.
 //
 // The balls are worked out once a call, the frames once a pose.
+#![tactic(auto)]
+
 mod checking;
 mod link_balls;
 mod pairs;
@@ -14,7 +16,7 @@ pub use searching::links_meet;
 
 // The ball of a link, and what carries it: 0 the base, 1 all tables, 2 all heads, 3 and 4 the first and the second
 // rotary. Two links of a model that passed its check have one class exactly where they have one carrier.
-#[derive(Drop)]
+#[derive(Clone, Copy)]
 pub struct Ball {
     pub class: u8,
     pub middle: Vec3,
@@ -22,14 +24,14 @@ pub struct Ball {
 }
 
 // The balls of a model's links, in their order.
-#[derive(Drop)]
+#[derive(Clone, Copy)]
 pub struct Balls {
     pub count: usize,
     pub items: [Ball; 64],
 }
 
 // The frames of classes 1 to 4 at a joint set. The base has none: it stands still.
-#[derive(Drop)]
+#[derive(Clone, Copy)]
 pub struct Frames {
     pub table: Rigid,
     pub head: Rigid,
@@ -38,14 +40,14 @@ pub struct Frames {
 }
 
 // The first two that meet at a pose, by index.
-#[derive(Drop)]
+#[derive(Clone, Copy)]
 pub enum Pair {
     Links { first: usize, second: usize },
     Apart,
 }
 
 // The first pose where two links meet, and the first two that do.
-#[derive(Drop)]
+#[derive(Clone, Copy)]
 pub enum Meeting {
     At {
         pose: usize,

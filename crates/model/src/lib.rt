@@ -1,5 +1,7 @@
 // The machine model: links of solids, each named and carried by a part of the chain, read from bytes that are lent; its check, and where a link stands at given joints (check_model, link_world and
 // link_in_part of the Rust). A model stays in its bytes: a link is known by where its parts stand there.
+#![tactic(auto)]
+
 mod carriers;
 mod link_frame;
 mod link_solid;
@@ -17,7 +19,7 @@ use refusal::Refusal;
 pub use texts::{same_bytes, text};
 
 // Where a link stands: the offsets of its name's length, of its carrier's length, of its kind, and past it.
-#[derive(Drop)]
+#[derive(Clone, Copy)]
 pub struct Link {
     pub name: usize,
     pub carrier: usize,
@@ -26,13 +28,13 @@ pub struct Link {
 }
 
 // What stands at an offset of a model's bytes.
-#[derive(Drop)]
+#[derive(Clone, Copy)]
 pub enum LinkRead {
     Link(Link),
     Refused(Refusal),
 }
 
-#[derive(Drop)]
+#[derive(Clone, Copy)]
 pub enum LinkSolid {
     Box {
         min: Vec3,
@@ -47,7 +49,7 @@ pub enum LinkSolid {
 }
 
 // What carrier bytes name: the base, all tables, all heads, or the rotary at an index.
-#[derive(Drop)]
+#[derive(Clone, Copy)]
 pub enum LinkKind {
     Base,
     Table,
@@ -56,7 +58,7 @@ pub enum LinkKind {
     Unknown,
 }
 
-#[derive(Drop)]
+#[derive(Clone, Copy)]
 pub enum Placed {
     At(Rigid),
     Refused(Refusal),

@@ -1,6 +1,8 @@
 // Joints along a path, each pose continuous with the one before it (solve_path of the Rust): exact where the rotaries can follow, locked inside the cone about the singular direction.
 // Where the lock would leave a rotary's limits the exact solution is taken there too, if there is one.
 // What is solved of one pose is by value and total; what is lent is touched in one place.
+#![tactic(auto)]
+
 mod closest;
 mod exact;
 mod locking;
@@ -20,27 +22,27 @@ pub use solving::{
 pub use unwinding::inside;
 
 // Where the path begins: at angles zero, or at given joints.
-#[derive(Drop)]
+#[derive(Clone, Copy)]
 pub enum Start {
     AtZero,
     From(Joints),
 }
 
 // One rotary whose axis is the singular direction, the second or the first, and the unit direction of that axis, in the sense of the spindle. The cone is the same about the opposite direction.
-#[derive(Drop)]
+#[derive(Clone, Copy)]
 pub struct SingularFrame {
     pub on_second: bool,
     pub direction: Vec3,
 }
 
-#[derive(Drop)]
+#[derive(Clone, Copy)]
 pub enum Frame {
     Singular(SingularFrame),
     Regular,
 }
 
 // How far each rotary may go, and its letter; `two`: there is a second one.
-#[derive(Drop)]
+#[derive(Clone, Copy)]
 pub struct Bounds {
     pub two: bool,
     pub outer: Travel,
@@ -50,7 +52,7 @@ pub struct Bounds {
 }
 
 // What is the same for every pose of a path, made once for a call.
-#[derive(Drop)]
+#[derive(Clone, Copy)]
 pub struct Setup {
     pub chain: Prepared,
     pub bounds: Bounds,
@@ -59,35 +61,35 @@ pub struct Setup {
 }
 
 // The nearest point of a circle, or none that is nearest.
-#[derive(Drop)]
+#[derive(Clone, Copy)]
 pub enum Nearest {
     Point(Vec3),
     Nothing,
 }
 
 // The angle that brings the tool axis nearest to its target, or none that is nearest.
-#[derive(Drop)]
+#[derive(Clone, Copy)]
 pub enum Fit {
     Angle(f64),
     Nothing,
 }
 
 // A solution of a pose before the limits, or none.
-#[derive(Drop)]
+#[derive(Clone, Copy)]
 pub enum Candidate {
     At(Joints),
     Nothing,
 }
 
 // A solution, unwound, and how far its angles are from the ones before.
-#[derive(Drop)]
+#[derive(Clone, Copy)]
 pub struct Ranked {
     pub joints: Joints,
     pub distance: f64,
 }
 
 // What a pose of a path is answered.
-#[derive(Drop)]
+#[derive(Clone, Copy)]
 pub enum PoseAnswer {
     At(Joints),
     Refused(Refusal),

@@ -1,4 +1,6 @@
 // Reads a job from standard input and writes its answer to standard output: the divided path, or why the job is refused. Of what is read and written no contract can speak; what the answer to the bytes is, `answering::post` says.
+#![tactic(auto)]
+
 mod answering;
 
 use libc::{STDIN_FILENO, STDOUT_FILENO};

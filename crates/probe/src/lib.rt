@@ -1,6 +1,8 @@
 // Only for tests: functions under C names that the static library does not export, so that the Rust in oracle/ can call
 // what was proved and hold it to the standard library and to document 01: those of `float`, `sine_cosine` and
 // `of_degrees` of `trig`, and the inner form of `chain`'s forward. Nothing else may be built on it.
+#![tactic(auto)]
+
 mod forwards;
 
 ghost use Rattle.std.specs.Prelude.{min, ◌≡◌};

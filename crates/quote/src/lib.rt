@@ -1,5 +1,7 @@
 // A quotation: how many poses a division inserts, how many it gives and how often its tests evaluate `forward`, with no
 // path written. What waits are midpoints, and their joint sets stand in lent scratch; given poses wait where they are.
+#![tactic(auto)]
+
 mod checking;
 mod entries;
 mod stepping;
@@ -11,7 +13,7 @@ use middle::Item;
 use refusal::Refusal;
 
 // How many poses are inserted, how many the output holds, and how many forward evaluations the tests and insertions count.
-#[derive(Drop)]
+#[derive(Clone, Copy)]
 pub struct Figures {
     pub inserted: u64,
     pub poses: u64,
@@ -20,7 +22,7 @@ pub struct Figures {
 
 // What a quotation answers: a refusal of the checks, too little scratch (28), an insertion that is one too many (27, with
 // the number inserted), or the figures.
-#[derive(Drop)]
+#[derive(Clone, Copy)]
 pub enum Quote {
     Refused(Refusal),
     NoSpace,
@@ -30,7 +32,7 @@ pub enum Quote {
 
 // Where a quotation stands: the last item of those that stay; the first joint set that waits in the scratch, which is
 // filled from 10,000 downwards; the next given item; and how many were inserted, and evaluated.
-#[derive(Drop)]
+#[derive(Clone, Copy)]
 pub struct Place {
     pub left: Item,
     pub top: usize,
@@ -41,7 +43,7 @@ pub struct Place {
 
 // The same with what was evaluated already: the axis that the left joint set reaches; the first item that waits, and the
 // axis that its joint set reaches; and the axis that the next given joint set reaches.
-#[derive(Drop)]
+#[derive(Clone, Copy)]
 pub struct Quoter {
     pub place: Place,
     pub left_axis: Vec3,
@@ -51,7 +53,7 @@ pub struct Quoter {
 }
 
 // What one test comes to.
-#[derive(Drop)]
+#[derive(Clone, Copy)]
 pub enum Stepped {
     On(Quoter),
     TooMany,

@@ -1,9 +1,10 @@
 // The refusals of every entry, by number: document 01's table of causes, and from 30 on those of document 02. A number is
 // written here once, and specs/Numbers.antt has the same names for the contracts.
+#![tactic(auto)]
 
 // What a refusal hands back: its number; where, as the rotary, the link, the pose or the offset that goes with the number, 0
 // where there is none; and for LEAVES_AXIS the rotary's letter, else 0.
-#[derive(Drop)]
+#[derive(Clone, Copy)]
 pub struct Refusal {
     pub number: u32,
     pub at: u64,

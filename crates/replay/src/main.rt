@@ -1,5 +1,7 @@
 // Replays a fixed sample of the Rust's answers over every entry of `maztubel` but the slice forms, without the Rust: reads cases from standard input, calls the entry of each, and writes a line for each, with the number, what goes with it, and
 // what was lent, afterwards. README.md says what a case and a line are, and how both files were made.
+#![tactic(auto)]
+
 mod cases;
 mod entries;
 mod functions;

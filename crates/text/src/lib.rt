@@ -1,4 +1,6 @@
 // Numbers as text, for programs: 16 hexadecimal digits, in upper case; of a float its bits, or `nan`.
+#![tactic(auto)]
+
 ghost use Rattle.std.specs.Prelude.{◌<◌, ◌≡◌};
 ghost use Rattle.text.specs.Hexadecimal.{digit as digitOf, digits};
 

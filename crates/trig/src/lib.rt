@@ -1,5 +1,7 @@
 // Sine, cosine, arctangent and arccosine of document 01, and the sine and cosine of degrees. Each answers every
 // argument, its contract names the answer and says what holds of it (specs/).
+#![tactic(auto)]
+
 ghost use Rattle.std.specs.Prelude.{◌≡◌};
 ghost use Rattle.trig.specs.Waves as Waves;
 ghost use Rattle.trig.specs.Degrees as Degrees;
@@ -19,19 +21,19 @@ use crate::degrees::{pair_in_degrees, turnable};
 use crate::waves::{cosine_value, pair_value, sine_value};
 pub use waves::served;
 
-#[derive(Drop)]
+#[derive(Clone, Copy)]
 pub enum Answer {
     Value(f64),
     OutOfRange,
 }
 
-#[derive(Drop)]
+#[derive(Clone, Copy)]
 pub struct Pair {
     pub sine: f64,
     pub cosine: f64,
 }
 
-#[derive(Drop)]
+#[derive(Clone, Copy)]
 pub enum PairAnswer {
     Values(Pair),
     OutOfRange,

@@ -37,7 +37,7 @@ fn rest_float(r: u64) -> f64
 }
 
 // An angle: k * Pi / 2 - r where `below`, and k * Pi / 2 + r otherwise.
-#[derive(Drop)]
+#[derive(Clone, Copy)]
 pub struct Turn {
     pub k: u64,
     pub below: bool,

@@ -1,4 +1,6 @@
 // One turn of the machine that halves a path in two lent outputs: its items there, and what one test of two neighbours comes to. Below the machine that takes turn after turn, so that a wrong turn is refused without its proofs.
+#![tactic(auto)]
+
 mod items;
 mod turning;
 
@@ -8,7 +10,7 @@ pub use turning::{MOST, advance, axis_at};
 
 // The state of a halving in lent outputs: how many items are placed; the index of the first that waits; how many were inserted; how many of those that wait are given ones, which stand last; the axis that the last
 // placed joint set reaches; and the one that the first waiting given one reaches, if there is one.
-#[derive(Drop)]
+#[derive(Clone, Copy)]
 pub struct Machine {
     pub placed: usize,
     pub waiting: usize,
@@ -19,7 +21,7 @@ pub struct Machine {
 }
 
 // What one test comes to; a refusal has the number inserted.
-#[derive(Drop)]
+#[derive(Clone, Copy)]
 pub enum Turn {
     On(Machine),
     TooMany(u64),

@@ -1,5 +1,7 @@
 // A job written into lent bytes: chain, poses and trailer at their front, with nothing between them. The reader is
 // crate job.
+#![tactic(auto)]
+
 ghost use Rattle.std.specs.Prelude.{◌≡◌, length};
 ghost use Rattle.writer.specs.Checking as S;
 
@@ -14,7 +16,7 @@ use refusal::Refusal;
 use writing::put_job;
 
 // How many bytes the job has, or why it was not written.
-#[derive(Drop)]
+#[derive(Clone, Copy)]
 pub enum Written {
     Bytes(usize),
     Refused(Refusal),
