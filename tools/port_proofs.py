@@ -142,6 +142,29 @@ def turned(path, crate, function, of):
         for a in leftover:
             said.append("unmatched " + a + " : " + declared[a][1])
         args = matched
+    inlined = {}
+    for n, (d, typ) in list(declared.items()):
+        m = re.match(r"\(c : tie\.([A-Z]\S*?)( [^()]*)?\) → ", typ)
+        clause = re.search(rf"^{re.escape(n)} c =(.*)", d, re.M | re.S)
+        if m and clause and "\nunfolding" not in d and n not in invariants:
+            place = next((p for p in names.places if plain(p) == plain(m[1])), None)
+            if place:
+                body = re.sub(r"\s*\n\s*", " ", clause[1].strip())
+                inlined[n] = "(" + led(body, list(names.chain(place)), names, said) + ")"
+                used.add(n)
+
+    def inline(text):
+        for _ in range(3):
+            for n, body in inlined.items():
+                text = re.sub(rf"(?<![\w.'-]){re.escape(n)} c(?: ?\.before)*(?![\w'-])", lambda m: body, text)
+        return text
+
+    led_plain = led
+
+    def led_in(body, chain, names, said):
+        head, eq, rest = body.partition(" =")
+        return inline(led_plain(body, chain, names, said)) if inlined else led_plain(body, chain, names, said)
+
     for arg, (old, new), (place, _) in zip(args, needs, names.asked_at):
         if arg is None or TRIVIAL.fullmatch(arg.strip()):
             continue
@@ -160,17 +183,17 @@ def turned(path, crate, function, of):
             rest = body.split("=", 1)[1].strip() if "=" in body else ""
             if TRIVIAL.fullmatch(rest) and not unfolding:
                 continue
-            out.append(comment + f"pub {new} : goal.{new}\n" + (unfolding[0] if unfolding else "") + led(body, chain, names, said))
+            out.append(comment + f"pub {new} : goal.{new}\n" + (unfolding[0] if unfolding else "") + led_in(body, chain, names, said))
         else:
             m = re.match(r"\(?λ (c(?: κs| _)?)\. (.*?)\)?$", arg, re.S)
             if m and arg.startswith("("):
                 term = arg[1:-1]
                 term = re.sub(r"^λ c(?: κs| _)?\. ", "", term)
-                out.append(f"pub {new} : goal.{new}\n{new} c = " + led(term, chain, names, said))
+                out.append(f"pub {new} : goal.{new}\n{new} c = " + led_in(term, chain, names, said))
             elif m:
-                out.append(f"pub {new} : goal.{new}\n{new} c = " + led(re.sub(r"^λ c(?: κs| _)?\. ", "", arg), chain, names, said))
+                out.append(f"pub {new} : goal.{new}\n{new} c = " + led_in(re.sub(r"^λ c(?: κs| _)?\. ", "", arg), chain, names, said))
             else:
-                out.append(f"pub {new} : goal.{new}\n{new} = {led(arg, chain, names, said)}")
+                out.append(f"pub {new} : goal.{new}\n{new} = {led_in(arg, chain, names, said)}")
     helpers = [d for n, (d, t) in declared.items() if n not in used]
     kept = []
     for h in helpers:
