@@ -57,9 +57,148 @@ def atoms(text):
     return out
 
 
+def contracts(top):
+    """By the path of each function of the repository the labels of its clauses."""
+    out = {}
+    for crate in sorted(os.listdir(os.path.join(top, "crates"))):
+        src = os.path.join(top, "crates", crate, "src")
+        for folder, _, files in os.walk(src):
+            for file in files:
+                if not file.endswith(".rt"):
+                    continue
+                path = os.path.relpath(os.path.join(folder, file), src)[: -len(".rt")]
+                steps = [crate] + [s for s in path.split(os.sep) if s not in ("lib", "main", "mod")]
+                text = re.sub(r"(?m)//[^\n]*", "", read(os.path.join(folder, file)))
+                types = []
+                for m in re.finditer(r"(?m)^impl(?:<[^>]*>)? (\w+)[^{]*\{", text):
+                    depth, at = 1, m.end()
+                    while depth and at < len(text):
+                        depth += {"{": 1, "}": -1}.get(text[at], 0)
+                        at += 1
+                    types.append((m.end(), at, m[1]))
+                for m in re.finditer(r"\bfn (\w+)", text):
+                    at = text.find("(", m.end())
+                    depth = 0
+                    while True:
+                        depth += {"(": 1, ")": -1}.get(text[at], 0)
+                        at += 1
+                        if not depth:
+                            break
+                    clauses = {"requires": [], "ensures": []}
+                    while True:
+                        it = re.compile(r"[^{;]*?\b(requires|ensures)\*?\s*(\w+)?\s*\{").match(text, at)
+                        if not it:
+                            break
+                        clauses[it[1]].append(it[2])
+                        depth, at = 1, it.end()
+                        while depth:
+                            depth += {"{": 1, "}": -1}.get(text[at], 0)
+                            at += 1
+                    of = next((n for a, b, n in types if a <= m.start() < b), None)
+                    out["::".join(steps + ([of] if of else []) + [m[1]])] = clauses
+    return out
+
+
+CONTRACTS = {}
+
+
+def labels(path, kind):
+    """The labels of a function's clauses of one kind, where it has several."""
+    got = CONTRACTS.get(path, {}).get(kind, [])
+    return got if len(got) > 1 or got and got[0] else []
+
+
+def picked(parts, names):
+    """A path of numbers into a tuple of clauses, as a path by label."""
+    if not names:
+        return parts
+    i = 0
+    while i < len(names) - 1 and parts[i : i + 1] == ["1"]:
+        i += 1
+    if i == len(names) - 1:
+        return [names[i]] + parts[i:]
+    if parts[i : i + 1] == ["0"]:
+        return [names[i]] + parts[i + 1 :]
+    return None
+
+
+def top_level(text, mark):
+    """The places at which the mark stands outside brackets."""
+    depth, out, at = 0, [], 0
+    while at < len(text):
+        ch = text[at]
+        depth += ch in "([{"
+        depth -= ch in ")]}"
+        if not depth and text.startswith(mark, at):
+            out.append(at)
+        at += 1
+    return out
+
+
+def closing(text):
+    """The place of the bracket that closes the first one."""
+    depth = 0
+    for at, ch in enumerate(text):
+        depth += (ch in "([{") - (ch in ")]}")
+        if not depth:
+            return at
+    return -1
+
+
+def as_record(body, names, said, goal):
+    """The answer with its tuple written as a record of the clauses."""
+    if len(names) < 2:
+        return body
+    eq = body.index(" =") + 2
+    head, term = body[:eq], body[eq:]
+    ins = top_level(term, " in ") + top_level(term, " in\n")
+    cut = max(ins) + 3 if ins else 0
+    lets, last = term[:cut], term[cut:].strip()
+    if last.startswith("record"):
+        return body
+    if last.startswith("(") and closing(last) == len(last) - 1:
+        inner = last[1:-1]
+        commas = top_level(inner, ",")
+        pieces = [inner[a:b].strip() for a, b in zip([0] + [c + 1 for c in commas], commas + [len(inner)])]
+        if len(pieces) > len(names):
+            pieces[len(names) - 1 :] = ["(" + ", ".join(pieces[len(names) - 1 :]) + ")"]
+        if len(pieces) == len(names):
+            fields = "; ".join(f"{n} = {p}" for n, p in zip(names, pieces))
+            return f"{head}{lets} record {{ {fields} }}"
+    said.append(f"{goal}: several clauses {names}")
+    ways = ["1." * i + "0" for i in range(len(names) - 1)] + [".".join("1" * (len(names) - 1))]
+    fields = "; ".join(f"{n} = all.{w}" for n, w in zip(names, ways))
+    return f"{head}{lets} let all = {last} in record {{ {fields} }}"
+
+
+def without_aliases(body):
+    """The term with each name of an earlier place written out."""
+    alias = re.compile(rf"let ([a-z]\w*'?) = c((?: ?\.{WORD})*) in\s*")
+    at = 0
+    while True:
+        m = alias.search(body, at)
+        if not m:
+            return body
+        rest = body[m.end() :]
+        steps = [s.strip() for s in m[2].split(".")[1:] if s.strip() != "before"]
+        if steps and (len(steps) > 1 or not re.search(rf"(?<![\w.'-]){re.escape(m[1])} ?\.", rest)):
+            at = m.end()
+            continue
+        if steps:
+            rest = re.sub(rf"(?<![\w.'-]){re.escape(m[1])}(?= ?\.[a-z0-9])", lambda _: "c" + m[2], rest)
+            if re.search(rf"(?<![\w.'-]){re.escape(m[1])}(?![\w.'-])", rest):
+                body = body[: m.end()] + rest
+                at = m.end()
+                continue
+        else:
+            rest = re.sub(rf"(?<![\w.'-]){re.escape(m[1])}(?![\w'-])", lambda _: "c" + m[2], rest)
+        body = body[: m.start()] + rest
+
+
 class Names:
     def __init__(self, of):
         self.places = {old: (parent, step, callee) for old, parent, step, callee, _ in of["places"]}
+        self.own = of.get("own", "")
         self.needs = of["needs"]
         self.asked_at = of["asked_at"]
         self.loops = of["loops"]
@@ -75,6 +214,14 @@ class Names:
 def led(text, chain, names, said):
     """The term with each path of facts at its new name."""
 
+    def of_clauses(path, parts, labelled):
+        got = picked(parts, labelled)
+        if got is not None:
+            return ".".join([path] + got)
+        if parts:
+            said.append(f"clauses of {path}: {parts}")
+        return "(" + ", ".join(f"{path}.{n}" for n in labelled) + ")"
+
     def one(m):
         parts = [p.strip() for p in m[1].split(".")[1:]]
         depth = 0
@@ -83,16 +230,21 @@ def led(text, chain, names, said):
             depth += 1
         if not parts:
             return m[0]
-        step = parts[0]
-        if step in ("args", "requires", "ranges", "well_formed", "well-formed", "type_inv"):
-            return "c." + ".".join(parts)
-        found = [(i, new) for i, (_, (old, new), _) in enumerate(chain) if plain(old) in (plain(step), plain(step.removesuffix("_lem")))]
+        step = parts[0].replace("well-formed", "well_formed").replace("type-inv", "type_inv")
+        if step == "requires":
+            return of_clauses("c.requires", parts[1:], labels(names.own, "requires"))
+        if step in ("args", "ranges", "well_formed", "type_inv"):
+            return ".".join(["c", step] + parts[1:])
+        same = (plain(step), plain(step.removesuffix("_lem")))
+        found = [(i, new, callee) for i, (_, (old, new), callee) in enumerate(chain) if plain(old) in same]
         if not found:
             said.append(f"no step {step}")
             return "c." + ".".join(parts)
-        new = min(found, key=lambda it: abs(it[0] - depth))[1]
-        if parts[1:2] and plain(parts[1]) == "invariant":
-            pass
+        _, new, callee = min(found, key=lambda it: abs(it[0] - depth))
+        if callee and parts[1:2] == ["ensures"]:
+            return of_clauses(f"c.{new}.ensures", parts[2:], labels(callee, "ensures"))
+        if new.startswith("if-not-") and parts[1:] in (["true"], ["false"]):
+            return f"(not_from_{'false' if parts[1] == 'true' else 'true'} _ c.{new}.{parts[1]})"
         return "c." + ".".join([new] + parts[1:])
 
     return PATH.sub(one, text)
@@ -101,6 +253,7 @@ def led(text, chain, names, said):
 def turned(path, crate, function, of):
     text = read(path)
     said = []
+    of["own"] = crate + "::" + function.replace(".", "::")
     names = Names(of)
     uses, decls = [], []
     for part in blocks(text):
@@ -144,26 +297,59 @@ def turned(path, crate, function, of):
         args = matched
     inlined = {}
     for n, (d, typ) in list(declared.items()):
-        m = re.match(r"\(c : tie\.([A-Z]\S*?)( [^()]*)?\) → ", typ)
-        clause = re.search(rf"^{re.escape(n)} c =(.*)", d, re.M | re.S)
-        if m and clause and "\nunfolding" not in d and n not in invariants:
+        m = re.match(r"\(c : tie\.([A-Z]\S*?)( [^()]*)?\) ", typ)
+        clause = re.search(rf"^{re.escape(n)} (c(?: [^\s=]+)*) =(.*)", d, re.M | re.S)
+        if m and clause and n not in invariants:
             place = next((p for p in names.places if plain(p) == plain(m[1])), None)
             if place:
-                body = re.sub(r"\s*\n\s*", " ", clause[1].strip())
-                inlined[n] = "(" + led(body, list(names.chain(place)), names, said) + ")"
+                body = without_aliases(re.sub(r"\s*\n\s*", " ", clause[2].strip()))
+                inlined[n] = (clause[1].split()[1:], led(body, list(names.chain(place)), names, said))
                 used.add(n)
+                if "\nunfolding" in d:
+                    said.append(f"inlined with its unfolding: {n}")
+
+    def inline_one(text, n, params, body):
+        word = re.compile(rf"(?<![\w.'-]){re.escape(n)} c(?: ?\.before)*(?![\w.'-])")
+        while True:
+            m = word.search(text)
+            if not m:
+                return text
+            end, given = m.end(), []
+            while len(given) < len(params):
+                skip = len(text[end:]) - len(text[end:].lstrip())
+                got = atoms(text[end + skip :])[:1]
+                if not got:
+                    break
+                while got[0][-1] in ",;]}":
+                    got[0] = got[0][:-1]
+                given.append(got[0])
+                end += skip + len(got[0])
+            put = body
+            for p, g in zip(params, given):
+                if p != "_":
+                    put = re.sub(rf"(?<![\w.'-]){re.escape(p)}(?![\w'-])", lambda _: g, put)
+            text = text[: m.start()] + "(" + put + ")" + text[end:]
 
     def inline(text):
         for _ in range(3):
-            for n, body in inlined.items():
-                text = re.sub(rf"(?<![\w.'-]){re.escape(n)} c(?: ?\.before)*(?![\w'-])", lambda m: body, text)
+            for n, (params, body) in inlined.items():
+                text = inline_one(text, n, params, body)
         return text
 
     led_plain = led
 
     def led_in(body, chain, names, said):
-        head, eq, rest = body.partition(" =")
-        return inline(led_plain(body, chain, names, said)) if inlined else led_plain(body, chain, names, said)
+        return inline(led_plain(without_aliases(body), chain, names, said))
+
+    def whole(body, new, place):
+        """The answer, as a record where the goal has several clauses."""
+        if new.startswith("returns"):
+            return as_record(body, labels(names.own, "ensures"), said, new)
+        if "-requires" in new:
+            callee = names.places.get(place, (None, None, None))[2]
+            asked = of["asked"].get(next((o for o, n in needs if n == new), ""), None)
+            return as_record(body, asked or labels(callee, "requires"), said, new)
+        return body
 
     for arg, (old, new), (place, _) in zip(args, needs, names.asked_at):
         if arg is None or TRIVIAL.fullmatch(arg.strip()):
@@ -183,15 +369,16 @@ def turned(path, crate, function, of):
             rest = body.split("=", 1)[1].strip() if "=" in body else ""
             if TRIVIAL.fullmatch(rest) and not unfolding:
                 continue
-            out.append(comment + f"pub {new} : goal.{new}\n" + (unfolding[0] if unfolding else "") + led_in(body, chain, names, said))
+            out.append(comment + f"pub {new} : goal.{new}\n" + (unfolding[0] if unfolding else "") + whole(led_in(body, chain, names, said), new, place))
         else:
             m = re.match(r"\(?λ (c(?: κs| _)?)\. (.*?)\)?$", arg, re.S)
             if m and arg.startswith("("):
                 term = arg[1:-1]
                 term = re.sub(r"^λ c(?: κs| _)?\. ", "", term)
-                out.append(f"pub {new} : goal.{new}\n{new} c = " + led_in(term, chain, names, said))
+                out.append(f"pub {new} : goal.{new}\n" + whole(f"{new} c = " + led_in(term, chain, names, said), new, place))
             elif m:
-                out.append(f"pub {new} : goal.{new}\n{new} c = " + led_in(re.sub(r"^λ c(?: κs| _)?\. ", "", arg), chain, names, said))
+                term = re.sub(r"^λ c(?: κs| _)?\. ", "", arg)
+                out.append(f"pub {new} : goal.{new}\n" + whole(f"{new} c = " + led_in(term, chain, names, said), new, place))
             else:
                 out.append(f"pub {new} : goal.{new}\n{new} = {led_in(arg, chain, names, said)}")
     helpers = [d for n, (d, t) in declared.items() if n not in used]
@@ -213,12 +400,6 @@ def turned(path, crate, function, of):
     return uses, kept, out, given, said
 
 
-def new_loop(names, old):
-    for pair in names.loops:
-        flat = json.dumps(pair, ensure_ascii=False)
-    return None
-
-
 def write(path, text):
     os.makedirs(os.path.dirname(path), exist_ok=True)
     with open(path, "w", encoding="utf-8") as f:
@@ -229,8 +410,7 @@ def loop_names(of):
     """By the old name of a loop its new one."""
     out = {}
     for it in of["loops"]:
-        if isinstance(it, list) and len(it) >= 2 and all(isinstance(x, str) for x in it[:2]):
-            out[plain(it[0])] = it[1]
+        out[plain(it[0][0])] = it[0][1]
     return out
 
 
@@ -244,6 +424,7 @@ def main(argv):
         if "generated=1" not in r.stdout:
             print(r.stdout[-3000:], r.stderr[-2000:])
             return 1
+    CONTRACTS.update(contracts(os.path.dirname(os.path.dirname(crate))))
     listed = json.loads(read(os.path.join(where, "names.json")))
     proofs = os.path.join(crate, "proofs")
     for folder, dirs, files in os.walk(proofs):
@@ -284,6 +465,9 @@ def main(argv):
         if inv:
             text = "\n".join(uses) + f"\nuse Rattle.{name}.proofs.{function}.Given as goal\n\n" + "\n\n".join(inv) + "\n"
             write(os.path.join(folder, "Invariants.antt"), text.lstrip("\n"))
+        for word in ("not_from_true", "not_from_false"):
+            if any(f"({word} _ c." in it for it in out):
+                uses.append(f"use Rattle.std.proofs.lemmas.Bool.{{{word}}}")
         if out or (kept and not inv):
             text = "\n".join(uses) + f"\nuse Rattle.{name}.proofs.{function}.Goals as goal\n\n" + "\n\n".join(kept + out) + "\n"
             write(os.path.join(folder, "Answers.antt"), text.lstrip("\n"))

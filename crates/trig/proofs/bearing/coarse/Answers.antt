@@ -1,0 +1,7 @@
+-- `trig::bearing::coarse` meets its contract. Assumes nothing.
+use Rattle.std.proofs.Common.{ap, ◌∙◌, rules}
+use Rattle.trig.specs.Arctangent.{grid_float}
+use Rattle.trig.proofs.bearing.coarse.Goals as goal
+
+pub returns : goal.returns
+returns c = c.grid.ensures ∙ ap grid_float c.grid_angle-i.ensures.name

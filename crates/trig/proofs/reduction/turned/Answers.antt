@@ -1,0 +1,57 @@
+-- `trig::reduction::turned` meets its contract. Assumes nothing.
+use Rattle.std.proofs.Common.{ℕ, ◌+◌, ◌-◌, ◌*◌, ◌^◌, ◌<◌, ◌≤◌, T, sym, subst, arith, lit≤, rules}
+use lib.Ieee.{binary64, fits}
+use Rattle.trig.proofs.WaveError.{in_range, at_most, k_few, lengths}
+use Rattle.trig.proofs.WaveSteps.{turn_small, turn_under, turn_over}
+use Rattle.trig.proofs.reduction.turned.Reads as reads
+use Rattle.trig.proofs.reduction.turned.Lts as lts
+use Rattle.std.proofs.num.truncating_f64_to_u64.Reads as truncating-f64-to-u64-reads
+use Rattle.trig.proofs.reduction.base.Reads as base-reads
+use Rattle.trig.proofs.reduction.part.Reads as part-reads
+use Rattle.trig.proofs.reduction.rest_float.Reads as rest-float-reads
+use Rattle.trig.proofs.reduction.turns.Reads as turns-reads
+use Rattle.trig.proofs.reduction.turned.Goals as goal
+
+under-fits : (b x p : ℕ) → (b ≤ x + 2 ^ 53) × (x ≤ b + 2 ^ 53) × (p < 512) → ((b - x) * 512 < 2 ^ 64) × ((b - x) * 512 + p < 2 ^ 64)
+under-fits b x p h = omega arith
+
+over-fits : (b x p : ℕ) → (b ≤ x + 2 ^ 53) × (x ≤ b + 2 ^ 53) × (p < 512) → b < x → ((x - b) * 512 < 2 ^ 64) × (p ≤ (x - b) * 512)
+over-fits b x p h l = omega arith
+
+pub truncating_f64_to_u64-x-requires : goal.truncating_f64_to_u64-x-requires
+truncating_f64_to_u64-x-requires c = let all = in_range c.args.a c.requires ((subst T (sym c.well_formed.0.1) tt)) c.if-a.false in record { lower_bound = all.0; upper_bound = all.1 }
+
+pub turns-k-requires : goal.turns-k-requires
+turns-k-requires c =
+    at_most c.args.a c.requires ((subst T (sym c.well_formed.0.1) tt)) c.if-a.false c.truncating_f64_to_u64-x.result c.truncating_f64_to_u64-x.ensures
+
+pub base-b-requires : goal.base-b-requires
+base-b-requires c = (k_few c.args.a c.requires ((subst T (sym c.well_formed.0.1) tt)) c.if-a.false c.truncating_f64_to_u64-x.result c.truncating_f64_to_u64-x.ensures c.turns-k.result c.turns-k.ensures)
+
+pub part-p-requires : goal.part-p-requires
+part-p-requires c = (k_few c.args.a c.requires ((subst T (sym c.well_formed.0.1) tt)) c.if-a.false c.truncating_f64_to_u64-x.result c.truncating_f64_to_u64-x.ensures c.turns-k.result c.turns-k.ensures)
+
+pub overflow_mul-b : goal.overflow_mul-b
+overflow_mul-b c = record { fits = (under-fits c.base-b.result c.truncating_f64_to_u64-x.result c.part-p.result ((lengths c.args.a c.requires ((subst T (sym c.well_formed.0.1) tt)) c.if-a.false c.truncating_f64_to_u64-x.result c.truncating_f64_to_u64-x.ensures c.turns-k.result c.turns-k.ensures c.base-b.result c.part-p.result c.base-b.ensures c.part-p.ensures))).0 }
+
+pub overflow_add-b : goal.overflow_add-b
+overflow_add-b c = record { fits = (under-fits c.base-b.result c.truncating_f64_to_u64-x.result c.part-p.result ((lengths c.args.a c.requires ((subst T (sym c.well_formed.0.1) tt)) c.if-a.false c.truncating_f64_to_u64-x.result c.truncating_f64_to_u64-x.ensures c.turns-k.result c.turns-k.ensures c.base-b.result c.part-p.result c.base-b.ensures c.part-p.ensures))).1 }
+
+pub overflow_mul-x : goal.overflow_mul-x
+overflow_mul-x c = record { fits = (over-fits c.base-b.result c.truncating_f64_to_u64-x.result c.part-p.result ((lengths c.args.a c.requires ((subst T (sym c.well_formed.0.1) tt)) c.if-a.false c.truncating_f64_to_u64-x.result c.truncating_f64_to_u64-x.ensures c.turns-k.result c.turns-k.ensures c.base-b.result c.part-p.result c.base-b.ensures c.part-p.ensures)) c.if-x-b.false).0 }
+
+pub overflow_sub-x-else-x-b : goal.overflow_sub-x-else-x-b
+overflow_sub-x-else-x-b c = (over-fits c.base-b.result c.truncating_f64_to_u64-x.result c.part-p.result ((lengths c.args.a c.requires ((subst T (sym c.well_formed.0.1) tt)) c.if-a.false c.truncating_f64_to_u64-x.result c.truncating_f64_to_u64-x.ensures c.turns-k.result c.turns-k.ensures c.base-b.result c.part-p.result c.base-b.ensures c.part-p.ensures)) c.if-x-b.false).1
+
+pub returns-then-a : goal.returns-then-a
+returns-then-a c = let t = turn_small c.args.a c.if-a.true in (t.0, t.1, t.2, lit≤ tt)
+
+pub returns-then-x-b : goal.returns-then-x-b
+returns-then-x-b c =
+    let t = turn_under c.args.a c.if-a.false c.truncating_f64_to_u64-x.result c.turns-k.result c.base-b.result c.part-p.result c.truncating_f64_to_u64-x.ensures c.turns-k.ensures c.base-b.ensures c.part-p.ensures c.rest_float-r.result c.if-x-b.true c.rest_float-r.ensures in
+    (t.0, t.1, t.2, (k_few c.args.a c.requires ((subst T (sym c.well_formed.0.1) tt)) c.if-a.false c.truncating_f64_to_u64-x.result c.truncating_f64_to_u64-x.ensures c.turns-k.result c.turns-k.ensures))
+
+pub returns-else-x-b : goal.returns-else-x-b
+returns-else-x-b c =
+    let t = turn_over c.args.a c.if-a.false c.truncating_f64_to_u64-x.result c.turns-k.result c.base-b.result c.part-p.result c.truncating_f64_to_u64-x.ensures c.turns-k.ensures c.base-b.ensures c.part-p.ensures c.rest_float-r-else-x-b.result c.if-x-b.false c.rest_float-r-else-x-b.ensures in
+    (t.0, t.1, t.2, (k_few c.args.a c.requires ((subst T (sym c.well_formed.0.1) tt)) c.if-a.false c.truncating_f64_to_u64-x.result c.truncating_f64_to_u64-x.ensures c.turns-k.result c.turns-k.ensures))
