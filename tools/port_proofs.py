@@ -199,6 +199,7 @@ class Names:
     def __init__(self, of):
         self.places = {old: (parent, step, callee) for old, parent, step, callee, _ in of["places"]}
         self.own = of.get("own", "")
+        self.arms = {it[0]: arm for it, arm in zip(of["places"], of["arms"])}
         self.needs = of["needs"]
         self.asked_at = of["asked_at"]
         self.loops = of["loops"]
@@ -236,6 +237,11 @@ def led(text, chain, names, said):
         if step in ("args", "ranges", "well_formed", "type_inv"):
             return ".".join(["c", step] + parts[1:])
         same = (plain(step), plain(step.removesuffix("_lem")))
+        for place, _, _ in chain:
+            arm = names.arms.get(place)
+            for new, old, path in arm[2] if arm else []:
+                if path and plain(old) in same and parts[1 : 1 + len(path)] == path:
+                    return ".".join(["c", arm[0], new] + parts[1 + len(path) :])
         found = [(i, new, callee) for i, (_, (old, new), callee) in enumerate(chain) if plain(old) in same]
         if not found:
             said.append(f"no step {step}")

@@ -1,0 +1,15 @@
+use borrow.Author.Rules.{rules}
+use Rattle.geometry.specs.Slerp.{weighted}
+use Rattle.geometry.proofs.slerp.weighted.Goals as goal
+
+pub returns-in_default : goal.returns-in_default
+unfolding weighted
+returns-in_default c = rw (rw c.sine.ensures.name at c.in_default.is)
+
+pub returns-in_default-sine : goal.returns-in_default-sine
+unfolding weighted
+returns-in_default-sine c = rw (rw c.sine.ensures.name at c.in-Value.is, rw c.sine-2.ensures.name at c.in_default-sine.is)
+
+pub returns : goal.returns
+unfolding weighted
+returns c = rw (c.unit_or.ensures, c.add.ensures, c.scale-2.ensures, c.scale.ensures, rw c.sine.ensures.name at c.in-Value.is, rw c.sine-2.ensures.name at c.in-Value-sine.is)

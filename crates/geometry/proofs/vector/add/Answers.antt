@@ -1,0 +1,8 @@
+use borrow.Author.Rules.{rules}
+use mathlib.Core.Path.{refl}
+use Rattle.geometry.specs.Vector.{add}
+use Rattle.geometry.proofs.vector.add.Goals as goal
+
+pub returns : goal.returns
+unfolding add
+returns c = refl
