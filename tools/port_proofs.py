@@ -21,7 +21,7 @@ TRIVIAL = re.compile(r"\(?(λ c( κs)?\. )?(search rules|tt|search)\)?$")
 
 
 def plain(name):
-    return name.replace("_", "-").replace("·", "-")
+    return name.replace("_", "-").replace("·", "-").lower()
 
 
 def read(path):
@@ -160,6 +160,13 @@ def as_record(body, names, said, goal):
         inner = last[1:-1]
         commas = top_level(inner, ",")
         pieces = [inner[a:b].strip() for a, b in zip([0] + [c + 1 for c in commas], commas + [len(inner)])]
+        while len(pieces) < len(names) and pieces[-1].startswith("(") and closing(pieces[-1]) == len(pieces[-1]) - 1:
+            inner = pieces.pop()[1:-1]
+            commas = top_level(inner, ",")
+            if not commas:
+                pieces.append(f"({inner})")
+                break
+            pieces += [inner[a:b].strip() for a, b in zip([0] + [c + 1 for c in commas], commas + [len(inner)])]
         if len(pieces) > len(names):
             pieces[len(names) - 1 :] = ["(" + ", ".join(pieces[len(names) - 1 :]) + ")"]
         if len(pieces) == len(names):
