@@ -242,7 +242,7 @@ def led(text, chain, names, said):
         if step == "requires":
             return of_clauses("c.requires", parts[1:], labels(names.own, "requires"))
         if step in ("args", "ranges", "well_formed", "type_inv"):
-            return ".".join(["c", step] + parts[1:])
+            return ".".join(["c", step] + [p.replace("-", "_") for p in parts[1:2]] + parts[2:])
         same = (plain(step), plain(step.removesuffix("_lem")))
         for place, _, _ in chain:
             arm = names.arms.get(place)
@@ -461,13 +461,21 @@ def main(argv):
             m = re.search(rf"^{re.escape(a)} ([^\n]*?)=(.*)", d, re.M | re.S)
             params, body = m[1].split(), m[2]
 
+            at = next((i for i, it in enumerate(of["loops"]) if plain(it[0][0]) == plain(old)), None)
+            live_names = {}
+            if at is not None and len(params) == len(of["loops"][at][1]) + sum(of["changed"][at]):
+                variables, changed = of["loops"][at][1], of["changed"][at]
+                for w, v, is_changed in zip(params, variables, changed):
+                    live_names[w] = ("l.initial." if is_changed else "l.") + v
+                for w, v in zip(params[len(variables) :], [v for v, is_changed in zip(variables, changed) if is_changed]):
+                    live_names[w] = "l." + v
+            else:
+                said.append(f"the variables of loop {old}: {params}")
+                for w in params:
+                    live_names[w] = "l.initial." + w[:-1] if w.endswith("₀") else "l." + w
+
             def live(w):
-                p = w[0]
-                if p in params:
-                    if p.endswith("₀"):
-                        return "l.initial." + p[:-1]
-                    return "l." + p
-                return p
+                return live_names.get(w[0], w[0])
 
             body = re.sub(rf"(?<![\w.'-])({WORD})", live, body) if params else body
             comment = "".join(l + "\n" for l in d.split("\n") if l.startswith("--"))

@@ -1,0 +1,11 @@
+use borrow.Author.Rules.{rules}
+use Rattle.inverse.specs.Inverse.{hint_within}
+use Rattle.inverse.proofs.inverse_map.hint_within.Goals as goal
+
+pub returns-then-within : goal.returns-then-within
+unfolding hint_within
+returns-then-within c = rw (c.within-then-within.ensures, rw c.within.ensures at c.if-within.true)
+
+pub returns : goal.returns
+unfolding hint_within
+returns c = rw (rw c.within.ensures at c.if-within.false)

@@ -1,0 +1,19 @@
+use Prim.Native.Nat.{◌-◌, ◌≤◌}
+use native.Mathlib.Omega.{arith}
+use mathlib.Core.Path.{◌≡◌, refl, sym, ◌∙◌}
+use lib.ListN.{length}
+use borrow.Author.Rules.{rules}
+use Rattle.lists.proofs.Tests.{is}
+use Rattle.chain.specs.Check.{first_refusal}
+use Rattle.model.specs.Model.{links, links_of}
+use Rattle.model.specs.ModelCheck.{link_checks, each_link}
+use Rattle.model.proofs.Links.{checks_passed, checks_refused, checks_end}
+use Rattle.model.proofs.model_check.each_link.Given as goal
+
+abbrev pub invariant-loop-at : goal.invariant-loop-at
+invariant-loop-at l =
+    (l.index ≤ l.at)
+    × (first_refusal (link_checks l.k l.bytes 0 (links l.bytes 0 (length l.bytes))) ≡ first_refusal (link_checks l.k l.bytes l.index (links l.bytes l.at (length l.bytes))))
+
+abbrev pub decreases-loop-at : goal.decreases-loop-at
+decreases-loop-at l = length l.bytes - l.at
