@@ -188,7 +188,7 @@ def without_aliases(body):
             return body
         rest = body[m.end() :]
         steps = [s.strip() for s in m[2].split(".")[1:] if s.strip() != "before"]
-        if steps and (len(steps) > 1 or not re.search(rf"(?<![\w.'-]){re.escape(m[1])} ?\.", rest)):
+        if steps and (len(steps) > 1 and steps[1:] != ["ensures"] or not re.search(rf"(?<![\w.'-]){re.escape(m[1])} ?\.", rest)):
             at = m.end()
             continue
         if steps:

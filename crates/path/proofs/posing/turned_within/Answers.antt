@@ -1,0 +1,11 @@
+use borrow.Author.Rules.{rules}
+use Rattle.path.specs.Posing.{turned_within}
+use Rattle.path.proofs.posing.turned_within.Goals as goal
+
+pub returns-then-within : goal.returns-then-within
+unfolding turned_within
+returns-then-within c = rw (c.within-then-within.ensures, rw c.within.ensures at c.if-within.true)
+
+pub returns : goal.returns
+unfolding turned_within
+returns c = rw (rw c.within.ensures at c.if-within.false)

@@ -1,0 +1,12 @@
+use Prim.Native.Nat.{◌-◌}
+use native.Mathlib.Omega.{arith}
+use lib.ListN.{length, length-set}
+use Rattle.float.specs.Helpers.{nought}
+use Rattle.lists.proofs.Padding.{Clearing, clearing_start, clearing_step, clearing_end}
+use Rattle.path.proofs.solving.clear_from.Given as goal
+
+abbrev pub invariant-loop-i : goal.invariant-loop-i
+invariant-loop-i l = Clearing nought l.initial.out l.from l.out l.i
+
+abbrev pub decreases-loop-i : goal.decreases-loop-i
+decreases-loop-i l = length l.out - l.i

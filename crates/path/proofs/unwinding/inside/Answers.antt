@@ -1,0 +1,11 @@
+use borrow.Author.Rules.{rules}
+use Rattle.path.specs.Unwinding.{inside}
+use Rattle.path.proofs.unwinding.inside.Goals as goal
+
+pub returns-then-first_inside : goal.returns-then-first_inside
+unfolding inside
+returns-then-first_inside c = rw (c.second_inside.ensures, rw c.first_inside.ensures at c.if-first_inside.true)
+
+pub returns : goal.returns
+unfolding inside
+returns c = rw (rw c.first_inside.ensures at c.if-first_inside.false)
