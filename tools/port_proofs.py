@@ -173,8 +173,23 @@ def as_record(body, names, said, goal):
             fields = "; ".join(f"{n} = {p}" for n, p in zip(names, pieces))
             return f"{head}{lets} record {{ {fields} }}"
     said.append(f"{goal}: several clauses {names}")
+    rewrites = ""
+    if last.startswith("rw ") and len(atoms(last)) == 3 and atoms(last)[1] != "at":
+        _, rewrites, last = atoms(last)
+        pieces = [last]
+        while len(pieces) < len(names) and pieces[-1].startswith("(") and closing(pieces[-1]) == len(pieces[-1]) - 1:
+            inner = pieces.pop()[1:-1]
+            commas = top_level(inner, ",")
+            pieces += [inner[a:b].strip() for a, b in zip([0] + [c + 1 for c in commas], commas + [len(inner)])]
+            if not commas:
+                break
+        if len(pieces) == len(names):
+            fields = "; ".join(f"{n} = rw {rewrites} {p}" for n, p in zip(names, pieces))
+            return f"{head}{lets} record {{ {fields} }}"
+        last = last[1:-1] if last.startswith("(") and closing(last) == len(last) - 1 else last
     ways = ["1." * i + "0" for i in range(len(names) - 1)] + [".".join("1" * (len(names) - 1))]
-    fields = "; ".join(f"{n} = all.{w}" for n, w in zip(names, ways))
+    needs_it = lambda i: rewrites and (i == 0 or not goal.startswith("returns"))
+    fields = "; ".join(f"{n} = " + (f"rw {rewrites} all.{w}" if needs_it(i) else f"all.{w}") for i, (n, w) in enumerate(zip(names, ways)))
     return f"{head}{lets} let all = {last} in record {{ {fields} }}"
 
 
@@ -228,7 +243,10 @@ def led(text, chain, names, said):
             return ".".join([path] + got)
         if parts:
             said.append(f"clauses of {path}: {parts}")
-        return "(" + ", ".join(f"{path}.{n}" for n in labelled) + ")"
+        whole = f"{path}.{labelled[-1]}"
+        for label in reversed(labelled[:-1]):
+            whole = f"({path}.{label}, {whole})"
+        return whole
 
     def one(m):
         parts = [p.strip() for p in m[1].split(".")[1:]]
@@ -254,6 +272,14 @@ def led(text, chain, names, said):
             said.append(f"no step {step}")
             return "c." + ".".join(parts)
         _, new, callee = min(found, key=lambda it: abs(it[0] - depth))
+        if callee and parts[1:2] == ["auto"] and parts[2:]:
+            i = 0
+            while parts[2 + i : 3 + i] == ["1"]:
+                i += 1
+            params = names.of["params"].get(callee, [])
+            if i < len(params) and parts[2 + i : 3 + i] == ["0"]:
+                return ".".join(["c", new, "auto", params[i]] + parts[3 + i :])
+            said.append(f"auto of {callee}: {parts}")
         if callee and parts[1:2] == ["ensures"]:
             return of_clauses(f"c.{new}.ensures", parts[2:], labels(callee, "ensures"))
         if new.startswith("if-not-") and parts[1:] in (["true"], ["false"]):

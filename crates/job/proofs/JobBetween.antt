@@ -101,6 +101,7 @@ module _ (a b : List ℕ) (from to : ℕ) (agree : Agree a b from to) where
 
 -- ---- a chain in such bytes: its records have at least 72 bytes
 pub more : (w count : ℕ) → 1 ≤ count → w ≤ w * count
+more w zero h = elim h [ ]
 more w (suc n) h = omega arith
 
 pub two : (w count : ℕ) → count ≡ 2 → w * count ≡ w + w

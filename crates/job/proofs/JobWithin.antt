@@ -1,5 +1,5 @@
 -- What a job that was read says of its bytes: chain and poses lie before the trailer, and apart.
-use Rattle.std.proofs.Common.{◌≡◌, ℕ, suc, ◌+◌, ◌-◌, ◌*◌, ◌<◌, ◌≤◌, Bool, true, false, cond, not, ◌||◌, eqb, ltb, leb, ◌⊎◌, List, length, get_or, refl, inl, inr, arith, lit≤, ltb-false, ltb-true, eqb-true, leb-true}
+use Rattle.std.proofs.Common.{◌≡◌, ℕ, zero, suc, ◌+◌, ◌-◌, ◌*◌, ◌<◌, ◌≤◌, Bool, true, false, cond, not, ◌||◌, eqb, ltb, leb, ◌⊎◌, List, length, get_or, refl, inl, inr, arith, lit≤, ltb-false, ltb-true, eqb-true, leb-true}
 use mathlib.Core.Bool.{and-eq-true_iff, false≢true}
 use borrow.Author.Tests.{not-true}
 use Rattle.refusal.specs.Numbers as Numbers
@@ -102,6 +102,7 @@ pub record Within (bytes : List ℕ) (j : Job) : Type 0 where
   pub apart_from : (j.poses ≡ 0) ⊎ ((j.poses_at + 48 * j.poses ≤ j.chain_at) ⊎ (j.chain_at + j.chain_length ≤ j.poses_at))
 
 wide_enough : (w count : ℕ) → 72 ≤ w → 1 ≤ count → 104 ≤ 32 + w * count
+wide_enough w zero h l = elim l [ ]
 wide_enough w (suc n) h l =
     let e : w * suc n ≡ w * n + w = omega arith in
     omega (arith, h, e)

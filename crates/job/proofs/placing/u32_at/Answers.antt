@@ -1,0 +1,6 @@
+use Rattle.std.proofs.Common.{◌∙◌, rules}
+use Rattle.job.proofs.JobWithin.{four_is}
+use Rattle.job.proofs.placing.u32_at.Goals as goal
+
+pub returns : goal.returns
+returns c = c.four.ensures ∙ four_is _ _

@@ -1,0 +1,9 @@
+use Rattle.std.proofs.Common.{◌-◌, sym, arith}
+use Rattle.job.proofs.Lines.{Fitting, fitting_start, fitting_step, fitting_none, fitting_end, no_room}
+use Rattle.job.proofs.telling.lines_fit.Given as goal
+
+abbrev pub invariant-loop-i : goal.invariant-loop-i
+invariant-loop-i l = Fitting l.n l.used l.room l.left l.i
+
+abbrev pub decreases-loop-i : goal.decreases-loop-i
+decreases-loop-i l = l.n - l.i

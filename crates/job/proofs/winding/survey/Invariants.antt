@@ -1,0 +1,9 @@
+use Rattle.std.proofs.Common.{◌-◌, arith}
+use Rattle.job.proofs.Surveying.{Surveying, surveying_start, surveying_step, surveying_end}
+use Rattle.job.proofs.winding.survey.Given as goal
+
+abbrev pub invariant-loop-i : goal.invariant-loop-i
+invariant-loop-i l = Surveying l.rest l.rotary l.joints l.n l.s l.i
+
+abbrev pub decreases-loop-i : goal.decreases-loop-i
+decreases-loop-i l = l.n - l.i
