@@ -145,6 +145,38 @@ def closing(text):
     return -1
 
 
+def tuple_pieces(text):
+    """What stands in a bracket, between commas."""
+    inner = text[1:-1]
+    commas = top_level(inner, ",")
+    cuts = zip([0] + [c + 1 for c in commas], commas + [len(inner)])
+    return [piece for piece in (inner[a:b].strip() for a, b in cuts) if piece]
+
+
+def bracketed(text):
+    return text.startswith("(") and closing(text) == len(text) - 1
+
+
+def distributed(term, count):
+    """A term that proves several clauses, as one term for each, where it is a tuple or rewrites one."""
+    term = term.strip()
+    if bracketed(term):
+        pieces = tuple_pieces(term)
+        if len(pieces) == 1:
+            return distributed(pieces[0], count)
+        while len(pieces) < count and bracketed(pieces[-1]) and len(tuple_pieces(pieces[-1])) > 1:
+            pieces += tuple_pieces(pieces.pop())
+        if len(pieces) > count:
+            pieces[count - 1 :] = ["(" + ", ".join(pieces[count - 1 :]) + ")"]
+        return pieces if len(pieces) == count else None
+    parts = atoms(term)
+    if parts[:1] == ["rw"] and (len(parts) == 3 or len(parts) == 4 and parts[2] == "at"):
+        below = distributed(parts[-1], count)
+        wrap = lambda p: p if re.fullmatch(WORD + rf"(\.{WORD})*", p) else f"({p})"
+        return below and [" ".join(parts[:-1] + [wrap(p)]) for p in below]
+    return None
+
+
 def as_record(body, names, said, goal):
     """The answer with its tuple written as a record of the clauses."""
     if len(names) < 2:
@@ -156,37 +188,15 @@ def as_record(body, names, said, goal):
     lets, last = term[:cut], term[cut:].strip()
     if last.startswith("record"):
         return body
-    if last.startswith("(") and closing(last) == len(last) - 1:
-        inner = last[1:-1]
-        commas = top_level(inner, ",")
-        pieces = [inner[a:b].strip() for a, b in zip([0] + [c + 1 for c in commas], commas + [len(inner)])]
-        while len(pieces) < len(names) and pieces[-1].startswith("(") and closing(pieces[-1]) == len(pieces[-1]) - 1:
-            inner = pieces.pop()[1:-1]
-            commas = top_level(inner, ",")
-            if not commas:
-                pieces.append(f"({inner})")
-                break
-            pieces += [inner[a:b].strip() for a, b in zip([0] + [c + 1 for c in commas], commas + [len(inner)])]
-        if len(pieces) > len(names):
-            pieces[len(names) - 1 :] = ["(" + ", ".join(pieces[len(names) - 1 :]) + ")"]
-        if len(pieces) == len(names):
-            fields = "; ".join(f"{n} = {p}" for n, p in zip(names, pieces))
-            return f"{head}{lets} record {{ {fields} }}"
+    pieces = distributed(last, len(names))
+    if pieces:
+        fields = "; ".join(f"{n} = {p}" for n, p in zip(names, pieces))
+        return f"{head}{lets} record {{ {fields} }}"
     said.append(f"{goal}: several clauses {names}")
     rewrites = ""
     if last.startswith("rw ") and len(atoms(last)) == 3 and atoms(last)[1] != "at":
         _, rewrites, last = atoms(last)
-        pieces = [last]
-        while len(pieces) < len(names) and pieces[-1].startswith("(") and closing(pieces[-1]) == len(pieces[-1]) - 1:
-            inner = pieces.pop()[1:-1]
-            commas = top_level(inner, ",")
-            pieces += [inner[a:b].strip() for a, b in zip([0] + [c + 1 for c in commas], commas + [len(inner)])]
-            if not commas:
-                break
-        if len(pieces) == len(names):
-            fields = "; ".join(f"{n} = rw {rewrites} {p}" for n, p in zip(names, pieces))
-            return f"{head}{lets} record {{ {fields} }}"
-        last = last[1:-1] if last.startswith("(") and closing(last) == len(last) - 1 else last
+        last = last[1:-1] if bracketed(last) else last
     ways = ["1." * i + "0" for i in range(len(names) - 1)] + [".".join("1" * (len(names) - 1))]
     needs_it = lambda i: rewrites and (i == 0 or not goal.startswith("returns"))
     fields = "; ".join(f"{n} = " + (f"rw {rewrites} all.{w}" if needs_it(i) else f"all.{w}") for i, (n, w) in enumerate(zip(names, ways)))

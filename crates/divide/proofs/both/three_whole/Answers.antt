@@ -1,0 +1,11 @@
+use borrow.Author.Rules.{rules}
+use Rattle.divide.specs.Subdividing.{three_whole}
+use Rattle.divide.proofs.both.three_whole.Goals as goal
+
+pub returns-then-whole_records : goal.returns-then-whole_records
+unfolding three_whole
+returns-then-whole_records c = rw (c.whole_records-then-whole_records.ensures, rw c.whole_records.ensures at c.if-whole_records.true)
+
+pub returns : goal.returns
+unfolding three_whole
+returns c = rw (rw c.whole_records.ensures at c.if-whole_records.false)

@@ -1,0 +1,15 @@
+use Prim.Native.Nat.{◌-◌}
+use native.Mathlib.Omega.{arith}
+use borrow.Author.Rules.{rules}
+use mathlib.Core.Path.{◌∙◌}
+use Rattle.lists.proofs.Tests.{isn't, is_after_all}
+use Rattle.chain.specs.Check.{joints_within}
+use Rattle.turn.specs.Items.{joints_from, joints_in}
+use Rattle.divide.proofs.Scanning.{Scanning, scanning_start, scanning_step, scanning_missed, scanning_all}
+use Rattle.divide.proofs.checking.joint_sets_within.Given as goal
+
+abbrev pub invariant-loop-i : goal.invariant-loop-i
+invariant-loop-i l = Scanning joints_within 5 joints_from l.sets l.joints l.i
+
+abbrev pub decreases-loop-i : goal.decreases-loop-i
+decreases-loop-i l = l.sets - l.i

@@ -1,0 +1,15 @@
+use Prim.Native.Nat.{◌-◌}
+use native.Mathlib.Omega.{arith}
+use borrow.Author.Rules.{rules}
+use mathlib.Core.Path.{◌∙◌}
+use Rattle.lists.proofs.Tests.{isn't, is_after_all}
+use Rattle.path.specs.Solving.{pose_from, pose_in, poses_in}
+use Rattle.divide.specs.Checking.{tip_within}
+use Rattle.divide.proofs.Scanning.{Scanning, scanning_start, scanning_step, scanning_missed, scanning_all}
+use Rattle.divide.proofs.checking.tips_within.Given as goal
+
+abbrev pub invariant-loop-i : goal.invariant-loop-i
+invariant-loop-i l = Scanning tip_within 6 pose_from l.n l.poses l.i
+
+abbrev pub decreases-loop-i : goal.decreases-loop-i
+decreases-loop-i l = l.n - l.i

@@ -1,0 +1,11 @@
+use borrow.Author.Rules.{rules}
+use Rattle.divide.specs.Checking.{tolerance_good}
+use Rattle.divide.proofs.checking.tolerance_good.Goals as goal
+
+pub returns-then-finite : goal.returns-then-finite
+unfolding tolerance_good
+returns-then-finite c = rw (rw c.finite.ensures at c.if-finite.true)
+
+pub returns : goal.returns
+unfolding tolerance_good
+returns c = rw (rw c.finite.ensures at c.if-finite.false)

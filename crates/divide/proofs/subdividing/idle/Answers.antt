@@ -1,0 +1,12 @@
+use borrow.Author.Rules.{rules}
+use borrow.Author.Tests.{eq-eqb, ne_eqb}
+use Rattle.divide.specs.Subdividing.{idle}
+use Rattle.divide.proofs.subdividing.idle.Goals as goal
+
+pub returns-then-count-eq0 : goal.returns-then-count-eq0
+unfolding idle
+returns-then-count-eq0 c = rw (eq-eqb _ _ c.if-count-eq0.true)
+
+pub returns : goal.returns
+unfolding idle
+returns c = rw (ne_eqb _ _ c.if-count-eq0.false)
