@@ -282,13 +282,13 @@ def led(text, chain, names, said):
             said.append(f"no step {step}")
             return "c." + ".".join(parts)
         _, new, callee = min(found, key=lambda it: abs(it[0] - depth))
-        if callee and parts[1:2] == ["auto"] and parts[2:]:
+        if callee and parts[1:2] in (["auto"], ["new"]) and parts[2:3] in (["0"], ["1"]):
             i = 0
             while parts[2 + i : 3 + i] == ["1"]:
                 i += 1
             params = names.of["params"].get(callee, [])
             if i < len(params) and parts[2 + i : 3 + i] == ["0"]:
-                return ".".join(["c", new, "auto", params[i]] + parts[3 + i :])
+                return ".".join(["c", new, parts[1], params[i]] + parts[3 + i :])
             said.append(f"auto of {callee}: {parts}")
         if callee and parts[1:2] == ["ensures"]:
             return of_clauses(f"c.{new}.ensures", parts[2:], labels(callee, "ensures"))

@@ -1,0 +1,11 @@
+use borrow.Author.Rules.{rules}
+use native.Mathlib.Omega.{arith}
+use Rattle.quota.proofs.Settling.{paid_for, not_paid_for}
+use Rattle.quota.proofs.charging.settle.Goals as goal
+
+pub returns-then-charge-balance : goal.returns-then-charge-balance
+returns-then-charge-balance c =
+    let h = c.if-charge-balance.true in let all = paid_for c.args.balances.now c.args.shop c.args.said c.args.poses.now c.args.joints.now c.charge_of-charge.ensures (omega (arith, h)) in record { answer = all.0; poses = all.1.0; joints = all.1.1.0; balances = all.1.1.1 }
+
+pub returns : goal.returns
+returns c = let all = not_paid_for c.args.balances.now c.args.shop c.args.said c.args.poses.now c.args.joints.now c.charge_of-charge.ensures c.if-charge-balance.false c.clear_from.ensures c.clear_from-2.ensures in record { answer = all.0; poses = all.1.0; joints = all.1.1.0; balances = all.1.1.1 }

@@ -1,0 +1,14 @@
+use borrow.Author.Rules.{rules}
+use Rattle.quote.proofs.stepping.answer_in.Reads as reads
+use Rattle.quote.proofs.stepping.answer_in.Lts as lts
+use Rattle.quote.proofs.stepping.served.Reads as served-reads
+use Rattle.quote.proofs.stepping.answer_in.Goals as goal
+
+pub served-requires : goal.served-requires
+served-requires c = (c.requires.0, rw c.in-On.is at c.requires.1)
+
+pub returns-in-On : goal.returns-in-On
+returns-in-On c = rw c.in-On.is c.served.ensures
+
+pub returns-in-TooMany : goal.returns-in-TooMany
+returns-in-TooMany c = rw c.in-TooMany.is

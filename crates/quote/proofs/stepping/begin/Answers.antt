@@ -1,0 +1,27 @@
+use native.Mathlib.Omega.{arith}
+use mathlib.Core.Path.{ap, ◌∙◌}
+use Rattle.turn.specs.Turning.{axis_at}
+use lib.Dec.{lit≤}
+use Rattle.quote.specs.QuotationSteps.{begun}
+use Rattle.quote.proofs.Kept.{begun_axis}
+use borrow.Author.Rules.{rules}
+use Rattle.quote.proofs.stepping.begin.Reads as reads
+use Rattle.quote.proofs.stepping.begin.Lts as lts
+use Rattle.quote.proofs.stepping.evaluated.Reads as evaluated-reads
+use Rattle.quote.proofs.stepping.next_given.Reads as next-given-reads
+use Rattle.turn.proofs.item_at.Reads as item-at-reads
+use Rattle.turn.proofs.axis_at.Reads as axis-at-reads
+use Rattle.quote.proofs.stepping.begin.Goals as goal
+
+pub next_given-requires : goal.next_given-requires
+next_given-requires c = c.requires.0.0
+
+pub axis_at-end_axis-requires : goal.axis_at-end_axis-requires
+axis_at-end_axis-requires c = let w = c.next_given.ensures.within in let l = c.requires in omega (arith, w, l)
+
+pub evaluated-requires : goal.evaluated-requires
+evaluated-requires c = ((c.requires, lit≤ tt), (c.axis_at-left_axis.ensures ∙ begun_axis c.args.p c.args.given.now c.args.solved.now c.item_at-left.ensures, c.axis_at-end_axis.ensures ∙ ap (axis_at c.args.p c.args.solved.now) c.next_given.ensures.same))
+
+pub returns : goal.returns
+unfolding begun
+returns c = rw c.item_at-left.ensures at c.evaluated.ensures

@@ -1,0 +1,10 @@
+use Rattle.quote.proofs.Kept.{evaluated_so}
+use borrow.Author.Rules.{rules}
+use Rattle.quote.proofs.stepping.evaluated.Reads as reads
+use Rattle.quote.proofs.stepping.evaluated.Lts as lts
+use Rattle.quote.proofs.stepping.first_waiting.Reads as first-waiting-reads
+use Rattle.quote.proofs.stepping.waiting_axis.Reads as waiting-axis-reads
+use Rattle.quote.proofs.stepping.evaluated.Goals as goal
+
+pub returns : goal.returns
+returns c = evaluated_so c.args.p c.args.count c.args.given.now c.args.solved.now c.args.stack.now c.args.s c.requires.1.0 c.requires.1.1 c.first_waiting-right.ensures c.waiting_axis-right_axis.ensures

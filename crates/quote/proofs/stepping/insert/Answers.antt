@@ -1,0 +1,16 @@
+use borrow.Author.Tests.{eq-eqb, ne_eqb}
+use Rattle.quote.specs.QuotationSteps.{inserting, if_inserted}
+use borrow.Author.Rules.{rules}
+use Rattle.quote.proofs.stepping.insert.Reads as reads
+use Rattle.quote.proofs.stepping.insert.Lts as lts
+use Rattle.path.proofs.put_joints.Reads as put-joints-reads
+use Rattle.quote.proofs.stepping.with_middle.Reads as with-middle-reads
+use Rattle.quote.proofs.stepping.insert.Goals as goal
+
+pub returns-then-s-eq-MOST : goal.returns-then-s-eq-MOST
+unfolding inserting if_inserted
+returns-then-s-eq-MOST c = record { step = rw (eq-eqb _ _ c.if-s-eq-MOST.true); stack = rw (eq-eqb _ _ c.if-s-eq-MOST.true) }
+
+pub returns : goal.returns
+unfolding inserting if_inserted
+returns c = let left = ne_eqb _ _ c.if-s-eq-MOST.false in record { step = rw (c.with_middle.ensures, left); stack = rw (c.put_joints.ensures, left) }

@@ -1,0 +1,15 @@
+use native.Mathlib.Omega.{arith}
+use borrow.Author.Tests.{lt-ltb, le-ltb}
+use Rattle.quote.specs.QuotationSteps.{next_given}
+use borrow.Author.Rules.{rules}
+use Rattle.quote.proofs.stepping.next_given.Reads as reads
+use Rattle.quote.proofs.stepping.next_given.Lts as lts
+use Rattle.quote.proofs.stepping.next_given.Goals as goal
+
+pub returns-then-next-count : goal.returns-then-next-count
+unfolding next_given
+returns-then-next-count c = record { same = rw (lt-ltb _ _ c.if-next-count.true); within = c.if-next-count.true }
+
+pub returns : goal.returns
+unfolding next_given
+returns c = record { same = rw (le-ltb _ _ c.if-next-count.false); within = omega arith }
