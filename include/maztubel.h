@@ -15,7 +15,7 @@
  *   each head's pivot beforehand, and to each position afterwards.
  */
 
-/* The exports of the static library maztubel (`rt staticlib maztubel` writes target/staticlib/libmaztubel.a).
+/* The exports of the static library maztubel (`tools/archive maztubel` writes target/staticlib/libmaztubel.a).
  *
  * The rotary kinematics of a five-axis postprocessor, in millimetres and degrees; docs/CONVENTIONS.md has frames,
  * pivots, signs and worked machines. Link the library on x86-64 Linux; of the C library it uses only memcpy and

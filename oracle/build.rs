@@ -1,4 +1,4 @@
-//! Links the archive of `probe` that `rt staticlib` wrote to target/staticlib/ of the repository (that of `maztubel` comes with
+//! Links the archive of `probe` that `tools/archive` wrote to target/staticlib/ of the repository (that of `maztubel` comes with
 //! bindings/rust), and copies the Rust that is compared, where it stands beside the repository, for `src/original.rs` to include.
 //! The cfg `original` says whether it does.
 
@@ -195,7 +195,7 @@ fn link_probe(folder: &Path) {
     println!("cargo::rerun-if-changed={}", archive.display());
     if !archive.is_file() {
         println!(
-            "cargo::error=target/staticlib/libprobe.a is missing: run `rt staticlib probe` in the repository's root first"
+            "cargo::error=target/staticlib/libprobe.a is missing: run `tools/archive probe` in the repository's root first"
         );
         exit(1);
     }

@@ -1,5 +1,5 @@
 //! Links libmaztubel.a: from the folder that MAZTUBEL_LIBRARY names, else from target/staticlib/ of the repository, where
-//! `rt staticlib maztubel` writes it.
+//! `tools/archive maztubel` writes it.
 
 use std::env;
 use std::path::{Path, PathBuf};
@@ -17,7 +17,7 @@ fn main() {
     println!("cargo::rerun-if-changed={}", archive.display());
     if !archive.is_file() {
         println!(
-            "cargo::error={} is missing: run `rt staticlib maztubel` in the repository's root, or set {VARIABLE} to its folder",
+            "cargo::error={} is missing: run `tools/archive maztubel` in the repository's root, or set {VARIABLE} to its folder",
             archive.display()
         );
         exit(1);

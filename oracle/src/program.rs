@@ -6,7 +6,7 @@ use std::process::{Command, Stdio};
 
 /// What it wrote, and that it ended with status 0; else how it ended.
 pub fn post(bytes: &[u8]) -> Result<String, String> {
-    let program = Path::new(env!("CARGO_MANIFEST_DIR")).join("../target/bin/post");
+    let program = Path::new(env!("CARGO_MANIFEST_DIR")).join("../crates/post/out/post");
     let mut process = Command::new(&program)
         .stdin(Stdio::piped())
         .stdout(Stdio::piped())

@@ -1,7 +1,7 @@
 //! Closes the gaps of a job: reads its bytes from standard input, and writes them with nothing between chain, poses and
 //! trailer.
 //!
-//!     cargo run --example rewrite < ../../examples/jobs/apart.job | ../../target/bin/post
+//!     cargo run --example rewrite < ../../examples/jobs/apart.job | ../../crates/post/out/post
 
 use maztubel::{Job, Refusal};
 use std::io::{self, Read, Write};

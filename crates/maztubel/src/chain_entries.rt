@@ -7,8 +7,7 @@ use crate::lent::{hand_back, joints_in, put_vector};
 use chain::{ChainRead, Checked, Posed};
 use refusal::Refusal;
 
-#[unsafe(no_mangle)]
-pub extern "C" fn maztubel_check_chain(chain: &[u8], at: &mut u64, letter: &mut u8) -> u32
+pub fn maztubel_check_chain(chain: &[u8], at: &mut u64, letter: &mut u8) -> u32
     ensures number { result ≡ Lent.number_in (S.check_chain chain.now) }
     ensures place { at.new ≡ Lent.place_in (S.check_chain chain.now) }
     ensures named { letter.new ≡ Lent.letter_in (S.check_chain chain.now) }
@@ -17,8 +16,7 @@ pub extern "C" fn maztubel_check_chain(chain: &[u8], at: &mut u64, letter: &mut 
     hand_back(checked, at, letter)
 }
 
-#[unsafe(no_mangle)]
-pub extern "C" fn maztubel_forward(
+pub fn maztubel_forward(
     chain: &[u8],
     joints: &[f64],
     tool_length: f64,

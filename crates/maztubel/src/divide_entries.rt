@@ -13,8 +13,7 @@ use machine::Divided;
 use middle::Tolerances;
 use refusal::Refusal;
 
-#[unsafe(no_mangle)]
-pub extern "C" fn maztubel_subdivide_path(
+pub fn maztubel_subdivide_path(
     chain: &[u8],
     poses: &[f64],
     joints: &[f64],
@@ -39,8 +38,7 @@ pub extern "C" fn maztubel_subdivide_path(
     hand_over(said, inserted, at, letter)
 }
 
-#[unsafe(no_mangle)]
-pub extern "C" fn maztubel_solve_and_divide(
+pub fn maztubel_solve_and_divide(
     chain: &[u8],
     poses: &[f64],
     start: &[f64],

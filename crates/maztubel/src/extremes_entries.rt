@@ -9,8 +9,7 @@ use crate::lent::number_in;
 use chain::Checked;
 use extremes::Asked;
 
-#[unsafe(no_mangle)]
-pub extern "C" fn maztubel_build_extremes(joints: &[f64], summary: &mut [f64]) -> u32
+pub fn maztubel_build_extremes(joints: &[f64], summary: &mut [f64]) -> u32
     ensures number { result ≡ Lent.number_in (Checking.build_check joints.now (length summary.old)) }
     ensures lent { summary.new ≡ Entries.summary_built joints.now summary.old }
 {
@@ -18,8 +17,7 @@ pub extern "C" fn maztubel_build_extremes(joints: &[f64], summary: &mut [f64]) -
     number_in(checked)
 }
 
-#[unsafe(no_mangle)]
-pub extern "C" fn maztubel_replace_joints(
+pub fn maztubel_replace_joints(
     joints: &mut [f64],
     summary: &mut [f64],
     index: u64,
@@ -34,8 +32,7 @@ pub extern "C" fn maztubel_replace_joints(
     number_in(checked)
 }
 
-#[unsafe(no_mangle)]
-pub extern "C" fn maztubel_first_above(
+pub fn maztubel_first_above(
     joints: &[f64],
     summary: &[f64],
     rotary: u64,

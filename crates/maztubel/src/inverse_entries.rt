@@ -10,8 +10,7 @@ use geometry::Vec3;
 use inverse::{Angles, Answers, Choice, Chosen, Solutions};
 use refusal::Refusal;
 
-#[unsafe(no_mangle)]
-pub extern "C" fn maztubel_inverse(
+pub fn maztubel_inverse(
     chain: &[u8],
     pose: &[f64],
     tool_length: f64,
@@ -35,8 +34,7 @@ pub extern "C" fn maztubel_inverse(
     hand_back(checked, at, letter)
 }
 
-#[unsafe(no_mangle)]
-pub extern "C" fn maztubel_choose(
+pub fn maztubel_choose(
     chain: &[u8],
     pose: &[f64],
     tool_length: f64,

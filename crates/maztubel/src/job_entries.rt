@@ -11,8 +11,7 @@ use chain::{ChainRead, Checked};
 use job::{Cable, JobRead};
 use refusal::Refusal;
 
-#[unsafe(no_mangle)]
-pub extern "C" fn maztubel_read_job(
+pub fn maztubel_read_job(
     job: &[u8],
     chain_at: &mut u64,
     chain_length: &mut u64,
@@ -41,8 +40,7 @@ pub extern "C" fn maztubel_read_job(
     hand_place(read_check(read), at)
 }
 
-#[unsafe(no_mangle)]
-pub extern "C" fn maztubel_job_poses(job: &[u8], poses: &mut [f64], at: &mut u64) -> u32
+pub fn maztubel_job_poses(job: &[u8], poses: &mut [f64], at: &mut u64) -> u32
     ensures number { result ≡ Lent.number_in (poses_check (read_job job.now) (length poses.old)) }
     ensures place { at.new ≡ Lent.place_in (poses_check (read_job job.now) (length poses.old)) }
     ensures lent { poses.new ≡ job_poses job.now poses.old }
@@ -51,8 +49,7 @@ pub extern "C" fn maztubel_job_poses(job: &[u8], poses: &mut [f64], at: &mut u64
     hand_place(checked, at)
 }
 
-#[unsafe(no_mangle)]
-pub extern "C" fn maztubel_cable_number(
+pub fn maztubel_cable_number(
     chain: &[u8],
     joints: &[f64],
     rotary: u64,

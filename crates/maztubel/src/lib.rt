@@ -1,5 +1,6 @@
-// The static library: what C and Rust can call. include/maztubel.h declares the same. No export has a `requires`: each answers
-// every argument, with 0 or with a refusal's number, and its contract says what every lent number is afterwards.
+// What C and Rust can call: `maztubel_c` exports each entry under its C name, and include/maztubel.h declares the same. No entry
+// has a `requires`: each answers every argument, with 0 or with a refusal's number, and its contract says what every lent number is
+// afterwards.
 //
 // Sine, cosine, arctangent and arccosine, of one argument and of slices. A slice form tests every argument before it writes the
 // first answer, so that a refusal leaves the slice as it was. The entries of a chain stand in chain_entries, those of the inverse map
@@ -47,8 +48,7 @@ pub use tooth_entries::maztubel_choose_tooth;
 use trig::Answer;
 pub use write_entries::maztubel_write_job;
 
-#[unsafe(no_mangle)]
-pub extern "C" fn maztubel_sine(x: f64, answer: &mut f64) -> u32
+pub fn maztubel_sine(x: f64, answer: &mut f64) -> u32
     ensures number { result ≡ number_of (Waves.sine_of x) }
     ensures lent { answer.new ≡ written_over (Waves.sine_of x) answer.old }
     ensures right { Waves.SineAnswer x (Waves.sine_of x) }
@@ -56,8 +56,7 @@ pub extern "C" fn maztubel_sine(x: f64, answer: &mut f64) -> u32
     put(trig::sine(x), answer)
 }
 
-#[unsafe(no_mangle)]
-pub extern "C" fn maztubel_cosine(x: f64, answer: &mut f64) -> u32
+pub fn maztubel_cosine(x: f64, answer: &mut f64) -> u32
     ensures number { result ≡ number_of (Waves.cosine_of x) }
     ensures lent { answer.new ≡ written_over (Waves.cosine_of x) answer.old }
     ensures right { Waves.CosineAnswer x (Waves.cosine_of x) }
@@ -65,8 +64,7 @@ pub extern "C" fn maztubel_cosine(x: f64, answer: &mut f64) -> u32
     put(trig::cosine(x), answer)
 }
 
-#[unsafe(no_mangle)]
-pub extern "C" fn maztubel_arctangent(y: f64, x: f64, answer: &mut f64) -> u32
+pub fn maztubel_arctangent(y: f64, x: f64, answer: &mut f64) -> u32
     ensures number { result ≡ number_of (Arctangent.arctangent_of y x) }
     ensures lent { answer.new ≡ written_over (Arctangent.arctangent_of y x) answer.old }
     ensures right { Arctangent.ArctangentAnswer y x (Arctangent.arctangent_of y x) }
@@ -74,8 +72,7 @@ pub extern "C" fn maztubel_arctangent(y: f64, x: f64, answer: &mut f64) -> u32
     put(trig::arctangent(y, x), answer)
 }
 
-#[unsafe(no_mangle)]
-pub extern "C" fn maztubel_arccosine(c: f64, answer: &mut f64) -> u32
+pub fn maztubel_arccosine(c: f64, answer: &mut f64) -> u32
     ensures number { result ≡ number_of (Arccosine.arccosine_of c) }
     ensures lent { answer.new ≡ written_over (Arccosine.arccosine_of c) answer.old }
     ensures right { Arccosine.ArccosineAnswer c (Arccosine.arccosine_of c) }
@@ -83,8 +80,7 @@ pub extern "C" fn maztubel_arccosine(c: f64, answer: &mut f64) -> u32
     put(trig::arccosine(c), answer)
 }
 
-#[unsafe(no_mangle)]
-pub extern "C" fn maztubel_sines(xs: &[f64], answers: &mut [f64]) -> u32
+pub fn maztubel_sines(xs: &[f64], answers: &mut [f64]) -> u32
     ensures number { result ≡ number_of_all (same_length xs.now answers.old) (map Waves.sine_of xs.now) }
     ensures lent { answers.new ≡ all_written_over result (map Waves.sine_of xs.now) answers.old }
     ensures right { EachRight Waves.SineAnswer Waves.sine_of xs.now }
@@ -92,8 +88,7 @@ pub extern "C" fn maztubel_sines(xs: &[f64], answers: &mut [f64]) -> u32
     of_each(Function::Sine, xs, answers)
 }
 
-#[unsafe(no_mangle)]
-pub extern "C" fn maztubel_cosines(xs: &[f64], answers: &mut [f64]) -> u32
+pub fn maztubel_cosines(xs: &[f64], answers: &mut [f64]) -> u32
     ensures number { result ≡ number_of_all (same_length xs.now answers.old) (map Waves.cosine_of xs.now) }
     ensures lent { answers.new ≡ all_written_over result (map Waves.cosine_of xs.now) answers.old }
     ensures right { EachRight Waves.CosineAnswer Waves.cosine_of xs.now }
@@ -101,8 +96,7 @@ pub extern "C" fn maztubel_cosines(xs: &[f64], answers: &mut [f64]) -> u32
     of_each(Function::Cosine, xs, answers)
 }
 
-#[unsafe(no_mangle)]
-pub extern "C" fn maztubel_arccosines(cs: &[f64], answers: &mut [f64]) -> u32
+pub fn maztubel_arccosines(cs: &[f64], answers: &mut [f64]) -> u32
     ensures number { result ≡ number_of_all (same_length cs.now answers.old) (map Arccosine.arccosine_of cs.now) }
     ensures lent { answers.new ≡ all_written_over result (map Arccosine.arccosine_of cs.now) answers.old }
     ensures right { EachRight Arccosine.ArccosineAnswer Arccosine.arccosine_of cs.now }
@@ -110,8 +104,7 @@ pub extern "C" fn maztubel_arccosines(cs: &[f64], answers: &mut [f64]) -> u32
     of_each(Function::Arccosine, cs, answers)
 }
 
-#[unsafe(no_mangle)]
-pub extern "C" fn maztubel_arctangents(ys: &[f64], xs: &[f64], answers: &mut [f64]) -> u32
+pub fn maztubel_arctangents(ys: &[f64], xs: &[f64], answers: &mut [f64]) -> u32
     ensures number { result ≡ number_of_all (same_length ys.now xs.now && same_length xs.now answers.old) (paired Arctangent.arctangent_of ys.now xs.now) }
     ensures lent { answers.new ≡ all_written_over result (paired Arctangent.arctangent_of ys.now xs.now) answers.old }
     ensures right { EachPairRight Arctangent.ArctangentAnswer Arctangent.arctangent_of ys.now xs.now }

@@ -11,8 +11,7 @@ use chain::{ChainRead, Checked, Joints};
 use model::Placed;
 use refusal::Refusal;
 
-#[unsafe(no_mangle)]
-pub extern "C" fn maztubel_check_model(
+pub fn maztubel_check_model(
     name: &[u8],
     chain: &[u8],
     model: &[u8],
@@ -27,8 +26,7 @@ pub extern "C" fn maztubel_check_model(
     hand_back(checked, at, letter)
 }
 
-#[unsafe(no_mangle)]
-pub extern "C" fn maztubel_link_world(
+pub fn maztubel_link_world(
     name: &[u8],
     chain: &[u8],
     model: &[u8],
@@ -49,8 +47,7 @@ pub extern "C" fn maztubel_link_world(
     hand_back(placed_check(answer), at, letter)
 }
 
-#[unsafe(no_mangle)]
-pub extern "C" fn maztubel_link_in_part(
+pub fn maztubel_link_in_part(
     name: &[u8],
     chain: &[u8],
     model: &[u8],

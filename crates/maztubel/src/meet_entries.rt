@@ -10,8 +10,7 @@ use chain::{ChainRead, Checked};
 use meet::Meeting;
 use refusal::Refusal;
 
-#[unsafe(no_mangle)]
-pub extern "C" fn maztubel_links_meet(
+pub fn maztubel_links_meet(
     name: &[u8],
     chain: &[u8],
     model: &[u8],

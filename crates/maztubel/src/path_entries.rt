@@ -9,8 +9,7 @@ use crate::lent::{hand_back, joints_in};
 use chain::{ChainRead, Checked};
 use path::Start;
 
-#[unsafe(no_mangle)]
-pub extern "C" fn maztubel_solve_path(
+pub fn maztubel_solve_path(
     chain: &[u8],
     poses: &[f64],
     start: &[f64],

@@ -14,8 +14,7 @@ use crate::lent::number_in;
 use chain::Checked;
 use divide::Division;
 
-#[unsafe(no_mangle)]
-pub extern "C" fn maztubel_grant(balances: &mut [u64], shop: u64, amount: u64) -> u32
+pub fn maztubel_grant(balances: &mut [u64], shop: u64, amount: u64) -> u32
     ensures number { result ≡ number_in (grant_check balances.old shop amount) }
     ensures balances { balances.new ≡ after balances.old (Grant shop amount) }
 {
@@ -24,8 +23,7 @@ pub extern "C" fn maztubel_grant(balances: &mut [u64], shop: u64, amount: u64) -
 }
 
 // In each clause `plain` is what maztubel_subdivide_path answers to the same arguments.
-#[unsafe(no_mangle)]
-pub extern "C" fn maztubel_divide_for(
+pub fn maztubel_divide_for(
     balances: &mut [u64],
     shop: u64,
     chain: &[u8],

@@ -12,8 +12,7 @@ use middle::Tolerances;
 use quote::{Figures, Quote};
 use refusal::Refusal;
 
-#[unsafe(no_mangle)]
-pub extern "C" fn maztubel_quote(
+pub fn maztubel_quote(
     chain: &[u8],
     poses: &[f64],
     joints: &[f64],

@@ -12,8 +12,7 @@ use chain::{ChainRead, ToolPose};
 use inverse::{Choice, Chosen};
 use refusal::Refusal;
 
-#[unsafe(no_mangle)]
-pub extern "C" fn maztubel_choose_tooth(
+pub fn maztubel_choose_tooth(
     chain: &[u8],
     pose: &[f64],
     tool_length: f64,

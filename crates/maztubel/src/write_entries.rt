@@ -13,8 +13,7 @@ use middle::Tolerances;
 use refusal::Refusal;
 use writer::Written;
 
-#[unsafe(no_mangle)]
-pub extern "C" fn maztubel_write_job(
+pub fn maztubel_write_job(
     chain: &[u8],
     poses: &[f64],
     cone: f64,

@@ -17,7 +17,7 @@ const PIPE: usize = 65_536;
 
 /// In bytes, or nothing where the program was not built.
 pub fn peak(case: &Case) -> Option<u64> {
-    let program = Path::new(env!("CARGO_MANIFEST_DIR")).join("../target/bin/post");
+    let program = Path::new(env!("CARGO_MANIFEST_DIR")).join("../crates/post/out/post");
     if !program.is_file() {
         return None;
     }
