@@ -28,16 +28,7 @@ pub extern "C" fn maztubel_subdivide_path(
     ensures says { S.Says result (division_in (S.subdivide_of chain.now (S.tolerances chord axis) poses.now joints.now (length out_poses.old) (length out_joints.old))) }
 {
     maztubel::maztubel_subdivide_path(
-        chain,
-        poses,
-        joints,
-        chord,
-        axis,
-        out_poses,
-        out_joints,
-        inserted,
-        at,
-        letter,
+        chain, poses, joints, chord, axis, out_poses, out_joints, inserted, at, letter,
     )
 }
 
@@ -65,16 +56,6 @@ pub extern "C" fn maztubel_solve_and_divide(
     ensures says { S.Says result (division_in (S.both_of chain.now poses.now start.now cone (S.tolerances chord axis) (length out_poses.old) (length out_joints.old))) }
 {
     maztubel::maztubel_solve_and_divide(
-        chain,
-        poses,
-        start,
-        cone,
-        chord,
-        axis,
-        out_poses,
-        out_joints,
-        inserted,
-        at,
-        letter,
+        chain, poses, start, cone, chord, axis, out_poses, out_joints, inserted, at, letter,
     )
 }

@@ -29,7 +29,17 @@ pub extern "C" fn maztubel_read_job(
     ensures axis { axis.new ≡ S.axis_over (read_job job.now) axis.old }
     ensures promise { S.ChainPromise job.now (read_job job.now) }
 {
-    maztubel::maztubel_read_job(job, chain_at, chain_length, poses_at, count, cone, chord, axis, at)
+    maztubel::maztubel_read_job(
+        job,
+        chain_at,
+        chain_length,
+        poses_at,
+        count,
+        cone,
+        chord,
+        axis,
+        at,
+    )
 }
 
 #[unsafe(no_mangle)]

@@ -28,15 +28,6 @@ pub extern "C" fn maztubel_links_meet(
         × S.MeetPromise (read_chain chain.now) name.now model.now joints.now answer }
 {
     maztubel::maztubel_links_meet(
-        name,
-        chain,
-        model,
-        joints,
-        found,
-        pose,
-        first,
-        second,
-        at,
-        letter,
+        name, chain, model, joints, found, pose, first, second, at, letter,
     )
 }

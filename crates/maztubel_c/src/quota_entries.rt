@@ -51,17 +51,7 @@ pub extern "C" fn maztubel_divide_for(
         S.ChargedSays result balances.old shop plain (division_in (charged_division balances.old shop plain)) }
 {
     maztubel::maztubel_divide_for(
-        balances,
-        shop,
-        chain,
-        poses,
-        joints,
-        chord,
-        axis,
-        out_poses,
-        out_joints,
-        inserted,
-        at,
+        balances, shop, chain, poses, joints, chord, axis, out_poses, out_joints, inserted, at,
         letter,
     )
 }
