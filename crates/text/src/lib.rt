@@ -4,28 +4,28 @@
 ghost use Rattle.std.specs.Prelude.{◌<◌, ◌≡◌};
 ghost use Rattle.text.specs.Hexadecimal.{digit as digitOf, digits};
 
-use libc::STDOUT_FILENO;
+use std::io;
+use std::io::Write;
 
-pub fn write(bytes: &[u8]) {
-    io::write_all(STDOUT_FILENO, bytes);
+pub fn write<W: Write>(out: &mut W, bytes: &[u8]) -> io::Result<()> {
+    out.write_all(bytes)
 }
 
 // A blank and the float.
-pub fn write_float(x: f64) {
-    write(b" ");
+pub fn write_float<W: Write>(out: &mut W, x: f64) -> io::Result<()> {
+    write(out, b" ")?;
     if x != x {
-        write(b"nan");
-        return;
+        return write(out, b"nan");
     }
     let text = hexadecimal(f64::to_bits(x));
-    write(&text);
+    write(out, &text)
 }
 
 // A blank and the number.
-pub fn write_number(n: u64) {
-    write(b" ");
+pub fn write_number<W: Write>(out: &mut W, n: u64) -> io::Result<()> {
+    write(out, b" ")?;
     let text = hexadecimal(n);
-    write(&text);
+    write(out, &text)
 }
 
 fn hexadecimal(bits: u64) -> [u8; 16]
