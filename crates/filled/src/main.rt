@@ -13,8 +13,11 @@ use chain::{Joints, Mount, Prepared, Spin};
 use geometry::Vec3;
 use machine::Subdiv;
 use middle::Item;
+use std::io;
+use std::io::{BufWriter, Write};
 
-fn main() {
+fn main(rt: HostRuntime) -> io::Result<()> {
+    let mut out = BufWriter::new(rt.alloc(), rt.stdout())?;
     let p = machine();
     let job = Subdiv {
         inserted: 0,
@@ -24,8 +27,9 @@ fn main() {
     let first = item(p, 0.0);
     let second = item(p, 40.0);
     let third = item(p, 100.0);
-    let job = one_pair(job, p, first, second);
-    one_pair(job, p, second, third);
+    let job = one_pair(&mut out, job, p, first, second)?;
+    one_pair(&mut out, job, p, second, third)?;
+    out.flush()
 }
 
 // A table that turns about y, and the spindle along z.
@@ -78,16 +82,22 @@ fn item(p: Prepared, angle: f64) -> Item {
     Item { pose, joints }
 }
 
-fn one_pair(job: Subdiv, p: Prepared, left: Item, right: Item) -> Subdiv {
+fn one_pair<W: Write>(
+    out: &mut W,
+    job: Subdiv,
+    p: Prepared,
+    left: Item,
+    right: Item,
+) -> io::Result<Subdiv> {
     let mut poses = [0.0f64; 144];
     let mut joints = [0.0f64; 120];
     let after = filled(job, p, left, right, &mut poses, &mut joints);
-    text::write(b"inserted");
-    text::write_number(after.inserted);
-    text::write(b"\n");
-    write_rows(&poses, 6);
-    write_rows(&joints, 5);
-    after
+    text::write(out, b"inserted")?;
+    text::write_number(out, after.inserted)?;
+    text::write(out, b"\n")?;
+    write_rows(out, &poses, 6)?;
+    write_rows(out, &joints, 5)?;
+    Ok(after)
 }
 
 // The record is lent, and comes back with the new count.
@@ -106,16 +116,17 @@ fn filled(
 }
 
 // So many numbers to a line.
-fn write_rows(numbers: &[f64], width: usize) {
+fn write_rows<W: Write>(out: &mut W, numbers: &[f64], width: usize) -> io::Result<()> {
     if width == 0 {
-        return;
+        return Ok(());
     }
     let mut i: usize = 0;
     while i < numbers.len() {
-        text::write_float(numbers[i]);
+        text::write_float(out, numbers[i])?;
         i += 1;
         if i % width == 0 {
-            text::write(b"\n");
+            text::write(out, b"\n")?;
         }
     }
+    Ok(())
 }

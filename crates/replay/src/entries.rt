@@ -1,16 +1,23 @@
 // The entries of chains, of models and of the inverse map.
 use crate::cases::{CARRIER, MODEL, NAME, WHICH, chain_or_job, field, part, single};
 use crate::told;
+use std::io;
+use std::io::Write;
 
-pub fn check_chain(case: &[u8]) {
+pub fn check_chain<W: Write>(out: &mut W, case: &[u8]) -> io::Result<()> {
     let mut at: u64 = 7;
     let mut letter: u8 = 7;
     let number = maztubel::maztubel_check_chain(chain_or_job(case), &mut at, &mut letter);
-    told::begin(b"check_chain", number, at, letter);
-    told::end();
+    told::begin(out, b"check_chain", number, at, letter)?;
+    told::end(out)
 }
 
-pub fn forward(case: &[u8], joints: &[f64], pose: &mut [f64]) {
+pub fn forward<W: Write>(
+    out: &mut W,
+    case: &[u8],
+    joints: &[f64],
+    pose: &mut [f64],
+) -> io::Result<()> {
     let mut at: u64 = 7;
     let mut letter: u8 = 7;
     let number = maztubel::maztubel_forward(
@@ -21,12 +28,12 @@ pub fn forward(case: &[u8], joints: &[f64], pose: &mut [f64]) {
         &mut at,
         &mut letter,
     );
-    told::begin(b"forward", number, at, letter);
-    told::numbers(pose);
-    told::end();
+    told::begin(out, b"forward", number, at, letter)?;
+    told::numbers(out, pose)?;
+    told::end(out)
 }
 
-pub fn check_model(case: &[u8]) {
+pub fn check_model<W: Write>(out: &mut W, case: &[u8]) -> io::Result<()> {
     let mut at: u64 = 7;
     let mut letter: u8 = 7;
     let number = maztubel::maztubel_check_model(
@@ -36,11 +43,16 @@ pub fn check_model(case: &[u8]) {
         &mut at,
         &mut letter,
     );
-    told::begin(b"check_model", number, at, letter);
-    told::end();
+    told::begin(out, b"check_model", number, at, letter)?;
+    told::end(out)
 }
 
-pub fn link_world(case: &[u8], joints: &[f64], frame: &mut [f64]) {
+pub fn link_world<W: Write>(
+    out: &mut W,
+    case: &[u8],
+    joints: &[f64],
+    frame: &mut [f64],
+) -> io::Result<()> {
     let mut at: u64 = 7;
     let mut letter: u8 = 7;
     let number = maztubel::maztubel_link_world(
@@ -53,12 +65,17 @@ pub fn link_world(case: &[u8], joints: &[f64], frame: &mut [f64]) {
         &mut at,
         &mut letter,
     );
-    told::begin(b"link_world", number, at, letter);
-    told::numbers(frame);
-    told::end();
+    told::begin(out, b"link_world", number, at, letter)?;
+    told::numbers(out, frame)?;
+    told::end(out)
 }
 
-pub fn link_in_part(case: &[u8], joints: &[f64], frame: &mut [f64]) {
+pub fn link_in_part<W: Write>(
+    out: &mut W,
+    case: &[u8],
+    joints: &[f64],
+    frame: &mut [f64],
+) -> io::Result<()> {
     let mut at: u64 = 7;
     let mut letter: u8 = 7;
     let number = maztubel::maztubel_link_in_part(
@@ -71,12 +88,12 @@ pub fn link_in_part(case: &[u8], joints: &[f64], frame: &mut [f64]) {
         &mut at,
         &mut letter,
     );
-    told::begin(b"link_in_part", number, at, letter);
-    told::numbers(frame);
-    told::end();
+    told::begin(out, b"link_in_part", number, at, letter)?;
+    told::numbers(out, frame)?;
+    told::end(out)
 }
 
-pub fn links_meet(case: &[u8], joints: &[f64]) {
+pub fn links_meet<W: Write>(out: &mut W, case: &[u8], joints: &[f64]) -> io::Result<()> {
     let mut found: u64 = 7;
     let mut pose: u64 = 7;
     let mut first: u64 = 7;
@@ -95,15 +112,21 @@ pub fn links_meet(case: &[u8], joints: &[f64]) {
         &mut at,
         &mut letter,
     );
-    told::begin(b"links_meet", number, at, letter);
-    told::count(found);
-    told::count(pose);
-    told::count(first);
-    told::count(second);
-    told::end();
+    told::begin(out, b"links_meet", number, at, letter)?;
+    told::count(out, found)?;
+    told::count(out, pose)?;
+    told::count(out, first)?;
+    told::count(out, second)?;
+    told::end(out)
 }
 
-pub fn inverse(case: &[u8], pose: &[f64], hint: &[f64], list: &mut [f64]) {
+pub fn inverse<W: Write>(
+    out: &mut W,
+    case: &[u8],
+    pose: &[f64],
+    hint: &[f64],
+    list: &mut [f64],
+) -> io::Result<()> {
     let mut count: u64 = 7;
     let mut at: u64 = 7;
     let mut letter: u8 = 7;
@@ -117,13 +140,19 @@ pub fn inverse(case: &[u8], pose: &[f64], hint: &[f64], list: &mut [f64]) {
         &mut at,
         &mut letter,
     );
-    told::begin(b"inverse", number, at, letter);
-    told::count(count);
-    told::numbers(list);
-    told::end();
+    told::begin(out, b"inverse", number, at, letter)?;
+    told::count(out, count)?;
+    told::numbers(out, list)?;
+    told::end(out)
 }
 
-pub fn choose(case: &[u8], pose: &[f64], hint: &[f64], joints: &mut [f64]) {
+pub fn choose<W: Write>(
+    out: &mut W,
+    case: &[u8],
+    pose: &[f64],
+    hint: &[f64],
+    joints: &mut [f64],
+) -> io::Result<()> {
     let mut at: u64 = 7;
     let mut letter: u8 = 7;
     let number = maztubel::maztubel_choose(
@@ -136,12 +165,18 @@ pub fn choose(case: &[u8], pose: &[f64], hint: &[f64], joints: &mut [f64]) {
         &mut at,
         &mut letter,
     );
-    told::begin(b"choose", number, at, letter);
-    told::numbers(joints);
-    told::end();
+    told::begin(out, b"choose", number, at, letter)?;
+    told::numbers(out, joints)?;
+    told::end(out)
 }
 
-pub fn choose_tooth(case: &[u8], pose: &[f64], hint: &[f64], joints: &mut [f64]) {
+pub fn choose_tooth<W: Write>(
+    out: &mut W,
+    case: &[u8],
+    pose: &[f64],
+    hint: &[f64],
+    joints: &mut [f64],
+) -> io::Result<()> {
     let mut at: u64 = 7;
     let mut letter: u8 = 7;
     let number = maztubel::maztubel_choose_tooth(
@@ -155,7 +190,7 @@ pub fn choose_tooth(case: &[u8], pose: &[f64], hint: &[f64], joints: &mut [f64])
         &mut at,
         &mut letter,
     );
-    told::begin(b"choose_tooth", number, at, letter);
-    told::numbers(joints);
-    told::end();
+    told::begin(out, b"choose_tooth", number, at, letter)?;
+    told::numbers(out, joints)?;
+    told::end(out)
 }

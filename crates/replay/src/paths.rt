@@ -2,8 +2,16 @@
 // its chain.
 use crate::cases::{WHICH, byte_room, chain_or_job, field, numbers, single};
 use crate::told;
+use std::io;
+use std::io::Write;
 
-pub fn solve_path(case: &[u8], poses: &[f64], start: &[f64], joints: &mut [f64]) {
+pub fn solve_path<W: Write>(
+    out: &mut W,
+    case: &[u8],
+    poses: &[f64],
+    start: &[f64],
+    joints: &mut [f64],
+) -> io::Result<()> {
     let mut at: u64 = 7;
     let mut letter: u8 = 7;
     let number = maztubel::maztubel_solve_path(
@@ -15,18 +23,19 @@ pub fn solve_path(case: &[u8], poses: &[f64], start: &[f64], joints: &mut [f64])
         &mut at,
         &mut letter,
     );
-    told::begin(b"solve_path", number, at, letter);
-    told::numbers(joints);
-    told::end();
+    told::begin(out, b"solve_path", number, at, letter)?;
+    told::numbers(out, joints)?;
+    told::end(out)
 }
 
-pub fn subdivide_path(
+pub fn subdivide_path<W: Write>(
+    out: &mut W,
     case: &[u8],
     poses: &[f64],
     joints: &[f64],
     out_poses: &mut [f64],
     out_joints: &mut [f64],
-) {
+) -> io::Result<()> {
     let mut inserted: u64 = 7;
     let mut at: u64 = 7;
     let mut letter: u8 = 7;
@@ -42,17 +51,18 @@ pub fn subdivide_path(
         &mut at,
         &mut letter,
     );
-    told::begin(b"subdivide_path", number, at, letter);
-    divided(inserted, out_poses, out_joints);
+    told::begin(out, b"subdivide_path", number, at, letter)?;
+    divided(out, inserted, out_poses, out_joints)
 }
 
-pub fn solve_and_divide(
+pub fn solve_and_divide<W: Write>(
+    out: &mut W,
     case: &[u8],
     poses: &[f64],
     start: &[f64],
     out_poses: &mut [f64],
     out_joints: &mut [f64],
-) {
+) -> io::Result<()> {
     let mut inserted: u64 = 7;
     let mut at: u64 = 7;
     let mut letter: u8 = 7;
@@ -69,18 +79,18 @@ pub fn solve_and_divide(
         &mut at,
         &mut letter,
     );
-    told::begin(b"solve_and_divide", number, at, letter);
-    divided(inserted, out_poses, out_joints);
+    told::begin(out, b"solve_and_divide", number, at, letter)?;
+    divided(out, inserted, out_poses, out_joints)
 }
 
-fn divided(inserted: u64, poses: &[f64], joints: &[f64]) {
-    told::count(inserted);
-    told::numbers(poses);
-    told::numbers(joints);
-    told::end();
+fn divided<W: Write>(out: &mut W, inserted: u64, poses: &[f64], joints: &[f64]) -> io::Result<()> {
+    told::count(out, inserted)?;
+    told::numbers(out, poses)?;
+    told::numbers(out, joints)?;
+    told::end(out)
 }
 
-pub fn read_job(case: &[u8]) {
+pub fn read_job<W: Write>(out: &mut W, case: &[u8]) -> io::Result<()> {
     let mut chain_at: u64 = 7;
     let mut chain_length: u64 = 7;
     let mut poses_at: u64 = 7;
@@ -100,24 +110,24 @@ pub fn read_job(case: &[u8]) {
         &mut axis,
         &mut at,
     );
-    told::begin(b"read_job", number, at, 0);
-    told::count(chain_at);
-    told::count(chain_length);
-    told::count(poses_at);
-    told::count(count);
-    told::numbers(&[cone, chord, axis]);
-    told::end();
+    told::begin(out, b"read_job", number, at, 0)?;
+    told::count(out, chain_at)?;
+    told::count(out, chain_length)?;
+    told::count(out, poses_at)?;
+    told::count(out, count)?;
+    told::numbers(out, &[cone, chord, axis])?;
+    told::end(out)
 }
 
-pub fn job_poses(case: &[u8], poses: &mut [f64]) {
+pub fn job_poses<W: Write>(out: &mut W, case: &[u8], poses: &mut [f64]) -> io::Result<()> {
     let mut at: u64 = 7;
     let number = maztubel::maztubel_job_poses(chain_or_job(case), poses, &mut at);
-    told::begin(b"job_poses", number, at, 0);
-    told::numbers(poses);
-    told::end();
+    told::begin(out, b"job_poses", number, at, 0)?;
+    told::numbers(out, poses)?;
+    told::end(out)
 }
 
-pub fn cable_number(case: &[u8], joints: &[f64]) {
+pub fn cable_number<W: Write>(out: &mut W, case: &[u8], joints: &[f64]) -> io::Result<()> {
     let mut turns: u64 = 7;
     let mut at: u64 = 7;
     let mut letter: u8 = 7;
@@ -129,18 +139,18 @@ pub fn cable_number(case: &[u8], joints: &[f64]) {
         &mut at,
         &mut letter,
     );
-    told::begin(b"cable_number", number, at, letter);
-    told::count(turns);
-    told::end();
+    told::begin(out, b"cable_number", number, at, letter)?;
+    told::count(out, turns)?;
+    told::end(out)
 }
 
-pub fn write_job(case: &[u8], poses: &[f64]) {
+pub fn write_job<W: Write>(out: &mut W, case: &[u8], poses: &[f64]) -> io::Result<()> {
     let mut job = [7u8; 1024];
     let room = byte_room(case, WHICH, &job);
-    write_into(case, poses, &mut job[..room]);
+    write_into(out, case, poses, &mut job[..room])
 }
 
-fn write_into(case: &[u8], poses: &[f64], job: &mut [u8]) {
+fn write_into<W: Write>(out: &mut W, case: &[u8], poses: &[f64], job: &mut [u8]) -> io::Result<()> {
     let mut length: u64 = 7;
     let mut at: u64 = 7;
     let mut letter: u8 = 7;
@@ -155,15 +165,15 @@ fn write_into(case: &[u8], poses: &[f64], job: &mut [u8]) {
         &mut at,
         &mut letter,
     );
-    told::begin(b"write_job", number, at, letter);
-    told::count(length);
-    tell_bytes(job);
-    told::end();
+    told::begin(out, b"write_job", number, at, letter)?;
+    told::count(out, length)?;
+    tell_bytes(out, job)?;
+    told::end(out)
 }
 
 // As numbers, eight bytes each.
-fn tell_bytes(bytes: &[u8]) {
+fn tell_bytes<W: Write>(out: &mut W, bytes: &[u8]) -> io::Result<()> {
     let mut words = [0.0f64; 128];
     let n = numbers(bytes, &mut words);
-    told::numbers(&words[..n]);
+    told::numbers(out, &words[..n])
 }

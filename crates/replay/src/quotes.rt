@@ -1,14 +1,17 @@
 // The entry that quotes a division.
 use crate::cases::{chain_or_job, single};
 use crate::told;
+use std::io;
+use std::io::Write;
 
-pub fn quote(
+pub fn quote<W: Write>(
+    out: &mut W,
     case: &[u8],
     poses: &[f64],
     joints: &[f64],
     scratch_joints: &mut [f64],
     scratch_tips: &mut [f64],
-) {
+) -> io::Result<()> {
     let mut inserted: u64 = 7;
     let mut poses_out: u64 = 7;
     let mut evaluations: u64 = 7;
@@ -28,11 +31,11 @@ pub fn quote(
         &mut at,
         &mut letter,
     );
-    told::begin(b"quote", number, at, letter);
-    told::count(inserted);
-    told::count(poses_out);
-    told::count(evaluations);
-    told::numbers(scratch_joints);
-    told::numbers(scratch_tips);
-    told::end();
+    told::begin(out, b"quote", number, at, letter)?;
+    told::count(out, inserted)?;
+    told::count(out, poses_out)?;
+    told::count(out, evaluations)?;
+    told::numbers(out, scratch_joints)?;
+    told::numbers(out, scratch_tips)?;
+    told::end(out)
 }

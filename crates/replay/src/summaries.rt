@@ -2,24 +2,41 @@
 // the call, so that the one is the other's own.
 use crate::cases::{WHICH, field, single};
 use crate::told;
+use std::io;
+use std::io::Write;
 
-pub fn build_extremes(joints: &[f64], summary: &mut [f64]) {
+pub fn build_extremes<W: Write>(
+    out: &mut W,
+    joints: &[f64],
+    summary: &mut [f64],
+) -> io::Result<()> {
     let number = maztubel::maztubel_build_extremes(joints, summary);
-    told::begin(b"build_extremes", number, 0, 0);
-    told::numbers(summary);
-    told::end();
+    told::begin(out, b"build_extremes", number, 0, 0)?;
+    told::numbers(out, summary)?;
+    told::end(out)
 }
 
-pub fn replace_joints(case: &[u8], fresh: &[f64], joints: &mut [f64], summary: &mut [f64]) {
+pub fn replace_joints<W: Write>(
+    out: &mut W,
+    case: &[u8],
+    fresh: &[f64],
+    joints: &mut [f64],
+    summary: &mut [f64],
+) -> io::Result<()> {
     let index = field(case, WHICH) as u64;
     let number = maztubel::maztubel_replace_joints(joints, summary, index, fresh);
-    told::begin(b"replace_joints", number, 0, 0);
-    told::numbers(joints);
-    told::numbers(summary);
-    told::end();
+    told::begin(out, b"replace_joints", number, 0, 0)?;
+    told::numbers(out, joints)?;
+    told::numbers(out, summary)?;
+    told::end(out)
 }
 
-pub fn first_above(case: &[u8], joints: &[f64], summary: &[f64]) {
+pub fn first_above<W: Write>(
+    out: &mut W,
+    case: &[u8],
+    joints: &[f64],
+    summary: &[f64],
+) -> io::Result<()> {
     let rotary = field(case, WHICH) as u64;
     let mut found: u64 = 7;
     let mut index: u64 = 7;
@@ -31,8 +48,8 @@ pub fn first_above(case: &[u8], joints: &[f64], summary: &[f64]) {
         &mut found,
         &mut index,
     );
-    told::begin(b"first_above", number, 0, 0);
-    told::count(found);
-    told::count(index);
-    told::end();
+    told::begin(out, b"first_above", number, 0, 0)?;
+    told::count(out, found)?;
+    told::count(out, index)?;
+    told::end(out)
 }

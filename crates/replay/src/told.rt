@@ -2,38 +2,55 @@
 ghost use Rattle.std.specs.Prelude.{◌≤◌, length};
 
 use float::Comparison;
-use libc::STDOUT_FILENO;
+use std::io;
+use std::io::Write;
 
-pub fn begin(entry: &[u8], number: u32, at: u64, letter: u8) {
-    text::write(entry);
-    count(number as u64);
-    count(at);
-    count(letter as u64);
+pub fn begin<W: Write>(
+    out: &mut W,
+    entry: &[u8],
+    number: u32,
+    at: u64,
+    letter: u8,
+) -> io::Result<()> {
+    text::write(out, entry)?;
+    count(out, number as u64)?;
+    count(out, at)?;
+    count(out, letter as u64)
 }
 
-pub fn end() {
-    text::write(b"\n");
+pub fn end<W: Write>(out: &mut W) -> io::Result<()> {
+    text::write(out, b"\n")
 }
 
-pub fn unknown() {
-    text::write(b"unknown\n");
+pub fn unknown<W: Write>(out: &mut W) -> io::Result<()> {
+    text::write(out, b"unknown\n")
 }
 
-pub fn count(n: u64) {
-    text::write(b" ");
-    io::print_decimal(STDOUT_FILENO, n);
+pub fn count<W: Write>(out: &mut W, n: u64) -> io::Result<()> {
+    text::write(out, b" ")?;
+    decimal(out, n)
 }
 
-pub fn judged(entry: &[u8], number: u32, answer: f64, least: f64, greatest: f64) {
-    text::write(entry);
-    count(number as u64);
+fn decimal<W: Write>(out: &mut W, n: u64) -> io::Result<()> {
+    write!(out, "{n}")
+}
+
+pub fn judged<W: Write>(
+    out: &mut W,
+    entry: &[u8],
+    number: u32,
+    answer: f64,
+    least: f64,
+    greatest: f64,
+) -> io::Result<()> {
+    text::write(out, entry)?;
+    count(out, number as u64)?;
     if between(answer, least, greatest) {
-        text::write(b" within\n");
-        return;
+        return text::write(out, b" within\n");
     }
-    text::write(b" outside");
-    text::write_float(answer);
-    end();
+    text::write(out, b" outside")?;
+    text::write_float(out, answer)?;
+    end(out)
 }
 
 // By totalOrder.
@@ -44,32 +61,34 @@ fn between(x: f64, least: f64, greatest: f64) -> bool {
     !float::precedes(greatest, x)
 }
 
-pub fn numbers(xs: &[f64]) {
-    text::write(b" :");
+pub fn numbers<W: Write>(out: &mut W, xs: &[f64]) -> io::Result<()> {
+    text::write(out, b" :")?;
     let n = front(xs);
-    each(xs, n);
+    each(out, xs, n)?;
     if n < xs.len() {
-        text::write_float(xs[n]);
-        text::write(b"*");
-        io::print_decimal(STDOUT_FILENO, (xs.len() - n) as u64);
+        text::write_float(out, xs[n])?;
+        text::write(out, b"*")?;
+        decimal(out, (xs.len() - n) as u64)?;
     }
+    Ok(())
 }
 
 // In decimals.
-pub fn whole_numbers(xs: &[u64]) {
-    text::write(b" :");
-    each_count(xs, xs.len());
+pub fn whole_numbers<W: Write>(out: &mut W, xs: &[u64]) -> io::Result<()> {
+    text::write(out, b" :")?;
+    each_count(out, xs, xs.len())
 }
 
-fn each_count(xs: &[u64], n: usize) {
+fn each_count<W: Write>(out: &mut W, xs: &[u64], n: usize) -> io::Result<()> {
     let mut i: usize = 0;
     while i < n {
         if xs.len() <= i {
-            return;
+            return Ok(());
         }
-        count(xs[i]);
+        count(out, xs[i])?;
         i += 1;
     }
+    Ok(())
 }
 
 // From where on all are the same.
@@ -91,13 +110,14 @@ fn same(x: f64, y: f64) -> bool {
     }
 }
 
-fn each(xs: &[f64], count: usize) {
+fn each<W: Write>(out: &mut W, xs: &[f64], count: usize) -> io::Result<()> {
     let mut i: usize = 0;
     while i < count {
         if xs.len() <= i {
-            return;
+            return Ok(());
         }
-        text::write_float(xs[i]);
+        text::write_float(out, xs[i])?;
         i += 1;
     }
+    Ok(())
 }
