@@ -20,9 +20,7 @@ use Rattle.geometry.proofs.FitVectors.{FitVec}
 use Rattle.geometry.proofs.Range.{plain_turn, Turnable, sized_turnable, turn_served}
 use Rattle.refusal.specs.Numbers.{tool_length, not_finite, too_large}
 use Rattle.chain.specs.declared.Checked.{Checked}
-use Rattle.chain.specs.declared.Checked.TheVariants as Checked
 use Rattle.chain.specs.declared.ChainRead.{ChainRead}
-use Rattle.chain.specs.declared.ChainRead.TheVariants as ChainRead
 use Rattle.chain.specs.declared.Mount.{Mount}
 use Rattle.chain.specs.declared.Mount.TheVariants.{Table, Head, Absent}
 use Rattle.chain.specs.declared.Prepared.{Prepared}

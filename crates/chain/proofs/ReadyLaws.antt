@@ -16,7 +16,6 @@ use Rattle.geometry.specs.declared.Direction.TheVariants.{Unit, Nowhere}
 use Rattle.geometry.specs.Direction.{all_finite, unit_direction, unit_or, along}
 use Rattle.refusal.specs.Numbers.{rotary_letter, letter_twice, chain_not_finite, rotary_axis_zero, limits_refused, spindle_zero}
 use Rattle.chain.specs.declared.Checked.{Checked}
-use Rattle.chain.specs.declared.Checked.TheVariants as Checked
 use Rattle.chain.specs.declared.RotaryJoint.{RotaryJoint}
 use Rattle.chain.specs.declared.Kinematics.{Kinematics}
 use Rattle.chain.specs.declared.Prepared.{Prepared}

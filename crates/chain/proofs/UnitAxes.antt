@@ -12,8 +12,6 @@ use Rattle.geometry.specs.Direction.{all_finite, unit_direction, unit_or, along}
 use Rattle.geometry.proofs.FitVectors.{FitVec, unit_fits}
 use Rattle.geometry.proofs.UnitSize.{UnitSized, unit_size}
 use Rattle.chain.specs.declared.Carrier.{Carrier}
-use Rattle.chain.specs.declared.Carrier.TheVariants as Carrier
-use Rattle.chain.specs.declared.Checked.{Checked}
 use Rattle.chain.specs.declared.Checked.TheVariants.{Passed}
 use Rattle.chain.specs.declared.Kinematics.{Kinematics}
 use Rattle.chain.specs.declared.Mount.{Mount}

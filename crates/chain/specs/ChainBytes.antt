@@ -12,10 +12,9 @@ use Rattle.chain.specs.declared.Travel.TheVariants.{Unlimited, Within}
 use Rattle.chain.specs.declared.RotaryJoint.{RotaryJoint}
 use Rattle.chain.specs.declared.Kinematics.{Kinematics}
 use Rattle.chain.specs.declared.Checked.{Checked}
-use Rattle.chain.specs.declared.Checked.TheVariants as Checked
 use Rattle.chain.specs.declared.ChainRead.{ChainRead}
 use Rattle.chain.specs.declared.ChainRead.TheVariants.{Chain, Refused}
-use Rattle.chain.specs.Bytes.{byte_at, little_endian, number_at, vector_at, spare}
+use Rattle.chain.specs.Bytes.{byte_at, number_at, vector_at, spare}
 use Rattle.chain.specs.Check.{demand, then, first_refusal, one_or_two}
 
 -- ---- the fields, each with its offset: of the chain, and of a rotary's record from the record's start

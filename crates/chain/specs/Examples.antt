@@ -1,5 +1,5 @@
 -- Worked examples of a chain's bytes: what is refused and where, and what is handed on.
-use Rattle.std.specs.Prelude.{◌≡◌, refl, List, [], ◌∷◌, ◌++◌, ℕ, ◌+◌, ◌-◌, replicate}
+use Rattle.std.specs.Prelude.{◌≡◌, refl, List, [], ◌∷◌, ◌++◌, ℕ, ◌-◌, replicate}
 use Rattle.chain.specs.declared.ChainRead.TheVariants.{Chain}
 use Rattle.chain.specs.Bytes.{little_endian, spare}
 use Rattle.chain.specs.Check.{one_or_two}

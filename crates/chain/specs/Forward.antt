@@ -20,9 +20,7 @@ use Rattle.chain.specs.declared.Joints.{Joints}
 use Rattle.chain.specs.declared.ToolPose.{ToolPose}
 use Rattle.chain.specs.declared.Kinematics.{Kinematics}
 use Rattle.chain.specs.declared.Checked.{Checked}
-use Rattle.chain.specs.declared.Checked.TheVariants as Checked
 use Rattle.chain.specs.declared.ChainRead.{ChainRead}
-use Rattle.chain.specs.declared.ChainRead.TheVariants as ChainRead
 use Rattle.chain.specs.declared.Posed.{Posed}
 use Rattle.chain.specs.declared.Posed.TheVariants.{At, Refused}
 use Rattle.chain.specs.Check.{demand, first_refusal, chain_check, within, longest, joints_finite, joints_within, chain_within}

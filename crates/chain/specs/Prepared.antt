@@ -3,7 +3,6 @@ use Rattle.std.specs.Prelude.{cond, eqb}
 use Rattle.geometry.specs.declared.Vec3.{Vec3}
 use Rattle.geometry.specs.Direction.{unit_or}
 use Rattle.chain.specs.declared.Carrier.{Carrier}
-use Rattle.chain.specs.declared.Carrier.TheVariants as Carrier
 use Rattle.chain.specs.declared.Mount.{Mount}
 use Rattle.chain.specs.declared.Mount.TheVariants.{Table, Head, Absent}
 use Rattle.chain.specs.declared.RotaryJoint.{RotaryJoint}

@@ -1,7 +1,6 @@
 -- A chain from its bytes for a call that serves: where its bytes, its check and its sizes pass, it is prepared. Where one of them refuses it is `Unserved`, and the call's list of checks has the refusal.
 use Rattle.std.specs.Prelude.{Bool, true, false, ◌&&◌, cond, List, ℕ}
 use Rattle.chain.specs.declared.Checked.{Checked}
-use Rattle.chain.specs.declared.Checked.TheVariants as Checked
 use Rattle.chain.specs.declared.ChainRead.{ChainRead}
 use Rattle.chain.specs.declared.ChainRead.TheVariants.{Chain, Refused}
 use Rattle.chain.specs.declared.Kinematics.{Kinematics}

@@ -1,6 +1,6 @@
 -- The words in which the inner functions of `forward_from` promise their results, of a chain with records of w bytes.
 -- A reader who believes `Ready` and `Forward` needs none of them.
-use Rattle.std.specs.Prelude.{Bool, true, not, ◌&&◌, cond, List, ℕ, ◌+◌, ◌*◌, eqb, Float}
+use Rattle.std.specs.Prelude.{Bool, true, not, ◌&&◌, cond, List, ℕ, eqb, Float}
 use Rattle.std.specs.Float.Ieee as Ieee
 use Rattle.float.specs.Helpers.{nought}
 use Rattle.geometry.specs.declared.Vec3.{Vec3}
@@ -14,11 +14,8 @@ use Rattle.chain.specs.declared.RotaryJoint.{RotaryJoint}
 use Rattle.chain.specs.declared.Joints.{Joints}
 use Rattle.chain.specs.declared.Prepared.{Prepared}
 use Rattle.chain.specs.declared.Checked.{Checked}
-use Rattle.chain.specs.declared.Checked.TheVariants as Checked
 use Rattle.chain.specs.declared.ChainRead.{ChainRead}
-use Rattle.chain.specs.declared.ChainRead.TheVariants as ChainRead
 use Rattle.chain.specs.declared.Posed.{Posed}
-use Rattle.chain.specs.declared.Posed.TheVariants as Posed
 use Rattle.chain.specs.declared.Ready.{Ready}
 use Rattle.chain.specs.declared.Ready.TheVariants.{Served, Unserved}
 use Rattle.chain.specs.Bytes.{byte_at, vector_at}

@@ -1,18 +1,15 @@
 -- A point on the way from l to r, l + t * (r - l) in f64 arithmetic for a t from 0 to 0.75, lies between l and r. Subnormals and zeros of either sign are among them.
-use Rattle.std.proofs.Common.{◌≡◌, ℕ, zero, suc, ◌+◌, ◌-◌, ◌*◌, ◌/◌, ◌%◌, ◌^◌, ◌<◌, ◌≤◌, Bool, true, false, cond, not, ◌&&◌, ◌||◌, T, ltb, ◌⊎◌, ℤ, pos, negsuc, sym, refl, ap, ◌∙◌, subst, inl, inr, true≢false, le_trans, le_of_eq, lt_of_lt_of_le, lt_of_le_of_lt, mul-le-mul_right, mul_assoc, mul_comm, mul-le-mul, mul-le-mul_left, mul-pos, not-le_of_lt, le_of_mul-le-mul_right, arith, lit<, lit≤, pow_pos, pow_mono, pow-add}
+use Rattle.std.proofs.Common.{◌≡◌, ℕ, zero, suc, ◌+◌, ◌-◌, ◌*◌, ◌^◌, ◌<◌, ◌≤◌, Bool, true, false, T, ◌⊎◌, sym, refl, ap, ◌∙◌, subst, inl, inr, true≢false, le_trans, le_of_eq, lt_of_lt_of_le, lt_of_le_of_lt, mul-le-mul_right, mul-pos, not-le_of_lt, le_of_mul-le-mul_right, arith, lit<, lit≤, pow_pos, pow_mono, pow-add}
 use mathlib.Core.Bool.{false≢true}
-use lib.Pow.{pow-lt}
-use lib.Ieee.{Float, nan, inf, fin, binary64, unlike, up, down, size, round, add, sub, mul, neg, lt, eq, le, fits, is_nan, of_bits}
-use lib.Ieee.Fits.{round_is, round-fits, down_pos, add-fits, sub-fits, mul-fits}
+use lib.Ieee.{Float, nan, inf, fin, binary64, unlike, size, round, add, sub, mul, neg, lt, eq, le, fits, is_nan, of_bits}
+use lib.Ieee.Fits.{add-fits}
 use lib.Ieee.Digits.{size-lt, size-le, size_reaches}
-use lib.Ieee.Exact.{HasValue, units_val}
-use lib.Ieee.Order.{drop, kept}
-use lib.Ieee.Scale.{finite, grid, round_same}
-use Rattle.float.proofs.Rounding.{Within, round_near}
+use lib.Ieee.Scale.{finite, round_same}
+use Rattle.float.proofs.Rounding.{round_near}
 use Rattle.float.proofs.Rounding.{U_pos, Rounded, mul_is, within_scale}
 use Rattle.float.proofs.Order as order
-use Rattle.float.proofs.Units.{Held, held, exact_is, le_or_lt, one_number, is_finite}
-use Rattle.float.proofs.Signed.{pl, mi, negative_is, Below, le_val, val_le, Rnd, rnd_mono1, rnd_self, rnd_add, rnd_sub, neg_is}
+use Rattle.float.proofs.Units.{Held, held, exact_is, le_or_lt}
+use Rattle.float.proofs.Signed.{pl, mi, negative_is, Below, val_le, Rnd, rnd_mono1, rnd_self, rnd_add, rnd_sub, neg_is}
 use Rattle.float.proofs.Sizes.{size_le_parts, parts_size_le}
 use Rattle.float.specs.Units.{U, Is}
 use Rattle.float.specs.Helpers.{size_of, negative}

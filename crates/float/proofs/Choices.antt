@@ -1,12 +1,11 @@
 -- The helpers that choose by comparisons (`finite`, `clamp_unit`, `maximum`, `minimum`): each way of the code gives the definition's answer.
-use Rattle.std.proofs.Common.{◌≡◌, ℕ, zero, suc, ◌+◌, ◌*◌, ◌<◌, ◌≤◌, Bool, true, false, cond, not, T, ltb, leb, ℤ, sym, refl, ap, ◌∙◌, subst, true≢false, arith, leb→le, ltb-false, ltb-true}
+use Rattle.std.proofs.Common.{◌≡◌, ℕ, ◌*◌, ◌<◌, ◌≤◌, Bool, true, false, not, T, ltb, leb, sym, refl, ap, ◌∙◌, subst, true≢false, arith, leb→le, ltb-false, ltb-true}
 use mathlib.Core.Bool.{false≢true}
 use lib.Dec.{nleb→lt}
 use lib.Ieee.{Float, nan, inf, fin, binary64, up, down, neg, lt, eq, ne, is_nan, of_bits}
-use lib.Ieee.Fits.{down_pos}
 use lib.Ieee.Compare.{differs_from_itself}
 use lib.Ieee.Scale.{finite}
-use Rattle.float.specs.Helpers.{one, clamp_unit, maximum, minimum}
+use Rattle.float.specs.Helpers.{one, clamp_unit}
 
 -- ---- finite
 abbrev infinity : Float

@@ -1,13 +1,12 @@
 -- Sums and products in either order, signs in products, and the square of a difference in either order: equal bit for bit, for every f64.
-use Rattle.std.proofs.Common.{◌≡◌, ℕ, zero, suc, ◌+◌, ◌-◌, ◌*◌, ◌^◌, ◌<◌, ◌≤◌, Bool, true, false, cond, not, ◌&&◌, ◌||◌, T, eqb, ltb, ℤ, pos, negsuc, sym, refl, ap, ◌∙◌, subst, le_of_eq, mul-le-mul_right, mul_comm, add_comm, not-le_of_lt, arith, ltb→lt, nltb→le}
-use mathlib.Core.Bool.{beq}
+use Rattle.std.proofs.Common.{◌≡◌, ℕ, ◌+◌, ◌-◌, ◌*◌, ◌<◌, ◌≤◌, Bool, true, false, cond, not, T, eqb, ltb, sym, refl, ap, ◌∙◌, subst, mul_comm, add_comm, arith, ltb→lt, nltb→le}
 use lib.Ieee.{Float, nan, inf, fin, Format, binary64, unlike, up, down, round, sum, add, sub, mul, neg, fits}
 use lib.Ieee.Scale.{finite, round_same}
 use Rattle.float.proofs.Rounding.{U_pos}
 use Rattle.float.proofs.Order.{neg_neg}
-use Rattle.float.proofs.Units.{Held, held}
+use Rattle.float.proofs.Units.{held}
 use Rattle.float.proofs.Signed.{pl, mi, Rnd, rnd_sub, round_neg}
-use Rattle.float.specs.Units.{U, Is}
+use Rattle.float.specs.Units.{U}
 
 -- ---- sums
 sum_commutes : (f : Format) (s : Bool) (a : ℕ) (t : Bool) (b c : ℕ) → sum f s a t b c ≡ sum f t b s a c

@@ -1,7 +1,7 @@
 -- What the bit pattern of a normal f64 stands for, in units: its digits times 2 ^ (field - 1). The root reads and writes patterns.
-use Rattle.std.proofs.Common.{◌≡◌, ℕ, zero, suc, ◌+◌, ◌-◌, ◌*◌, ◌/◌, ◌%◌, ◌^◌, ◌<◌, ◌≤◌, Bool, true, false, cond, not, T, eqb, leb, sym, refl, ap, ◌∙◌, subst, lt_of_lt_of_le, lt_of_le_of_lt, mul-le-mul_right, mod-eq_of_lt, not-le_of_lt, arith, eqb→eq, leb→le}
+use Rattle.std.proofs.Common.{◌≡◌, ℕ, suc, ◌+◌, ◌*◌, ◌/◌, ◌%◌, ◌^◌, ◌<◌, Bool, true, false, cond, T, eqb, leb, sym, refl, ap, ◌∙◌, subst, mod-eq_of_lt, not-le_of_lt, arith, eqb→eq, leb→le}
 use lib.Pow.{high, low}
-use lib.Ieee.{Float, fin, inf, nan, binary64, odd, of_fields, of_bits}
+use lib.Ieee.{Float, inf, nan, binary64, odd, of_fields, of_bits}
 use lib.Ieee.Exact.{HasValue, odd_sign}
 use Rattle.float.specs.Units.{U, Is}
 

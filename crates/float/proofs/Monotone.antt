@@ -1,13 +1,13 @@
 -- The order of every f64, infinities included: equal up to the sign of a zero, and +, - and * by a value above zero keep it.
-use Rattle.std.proofs.Common.{◌≡◌, ℕ, zero, suc, ◌+◌, ◌-◌, ◌*◌, ◌/◌, ◌%◌, ◌^◌, ◌<◌, ◌≤◌, Bool, true, false, cond, not, ◌&&◌, ◌||◌, T, eqb, ltb, ◌⊎◌, ℤ, pos, negsuc, sym, refl, ap, ◌∙◌, subst, inl, inr, true≢false, le_of_eq, mul-le-mul_right, mul-pos, not-le_of_lt, arith, ltb→lt, ne_eqb}
-use mathlib.Core.Bool.{beq, false≢true}
+use Rattle.std.proofs.Common.{◌≡◌, ℕ, ◌+◌, ◌*◌, ◌<◌, ◌≤◌, Bool, true, false, cond, not, T, eqb, ◌⊎◌, ℤ, pos, sym, refl, ap, ◌∙◌, subst, inl, inr, true≢false, le_of_eq, mul-le-mul_right, mul-pos, not-le_of_lt, arith, ltb→lt, ne_eqb}
+use mathlib.Core.Bool.{false≢true}
 use lib.Ieee.{Float, nan, inf, fin, binary64, up, down, round, add, sub, mul, div, neg, lt, eq, le, fits, is_nan}
 use lib.Ieee.Fits.{neg-fits}
 use lib.Ieee.Scale.{finite}
 use lib.Ieee.Positive.{positive, positive-finite, value_pos}
 use Rattle.float.proofs.Rounding.{U_pos, div_is}
 use Rattle.float.proofs.Order as order
-use Rattle.float.proofs.Units.{Held, held, one_float}
+use Rattle.float.proofs.Units.{held, one_float}
 use Rattle.float.proofs.Signed.{pl, mi, negative_is, val_le, Rnd, rnd_mono1}
 use Rattle.float.proofs.Signed as signed
 use Rattle.float.proofs.Commute.{add_commutes, mul_neg}

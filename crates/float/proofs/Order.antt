@@ -1,7 +1,7 @@
 -- The order of floats, of every format, nan and infinities among them: reflexive but for nan, transitive, antisymmetric up to `eq`, total but for nan; `lt`, and `neg`.
-use Rattle.std.proofs.Common.{◌≡◌, ℕ, zero, suc, ◌+◌, ◌*◌, ◌<◌, ◌≤◌, Bool, true, false, not, ◌&&◌, ◌||◌, eqb, ltb, ℤ, sym, refl, ap, ◌∙◌, subst, lt_irrefl, mul-le-mul_right, le_of_mul-le-mul_right, arith, ltb-false, ltb-true, le-ltb, lt-ltb, eq-eqb, ne_eqb, eqb-true}
-use mathlib.Core.Bool.{beq, false≢true, or-true}
-use lib.Ieee.{Float, nan, inf, fin, up, down, below, level, lt, eq, le, ne, neg, is_nan}
+use Rattle.std.proofs.Common.{◌≡◌, ℕ, ◌+◌, ◌*◌, ◌<◌, ◌≤◌, Bool, true, false, not, ◌&&◌, ◌||◌, eqb, ltb, sym, refl, ap, ◌∙◌, subst, mul-le-mul_right, le_of_mul-le-mul_right, arith, ltb-true, lt-ltb, eq-eqb, eqb-true}
+use mathlib.Core.Bool.{false≢true, or-true}
+use lib.Ieee.{Float, nan, inf, fin, up, down, below, level, lt, eq, le, neg, is_nan}
 use lib.Ieee.Fits.{down_pos}
 use native.Mathlib.Decide.{dec_lt}
 

@@ -1,5 +1,5 @@
 -- The bit pattern of a finite f64, in terms of its value: the sign apart it is `rank v` for v units, below that of an infinity, and in the order of v.
-use Rattle.std.proofs.Common.{◌≡◌, ℕ, zero, suc, ◌+◌, ◌-◌, ◌*◌, ◌/◌, ◌^◌, ◌<◌, ◌≤◌, Bool, true, false, cond, T, ◌⊎◌, sym, refl, ap, ◌∙◌, subst, inl, inr, le_trans, le_of_eq, lt_of_lt_of_le, lt_of_le_of_lt, le_antisymm, le-div_iff_mul-le, not-le_of_lt, div-mul-le_self, arith, pow_pos, pow_mono, pow-add}
+use Rattle.std.proofs.Common.{◌≡◌, ℕ, ◌+◌, ◌-◌, ◌*◌, ◌/◌, ◌^◌, ◌<◌, ◌≤◌, Bool, cond, T, ◌⊎◌, sym, ap, ◌∙◌, subst, inl, inr, le_trans, le_of_eq, lt_of_lt_of_le, lt_of_le_of_lt, le-div_iff_mul-le, not-le_of_lt, div-mul-le_self, arith, pow_pos, pow_mono, pow-add}
 use lib.Ieee.{Float, binary64, size, fits, to_bits, of_bits}
 use lib.Ieee.Fits.{kept-lt}
 use lib.Ieee.Digits.{size-lt, size-le, size_reaches}

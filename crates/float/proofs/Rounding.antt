@@ -1,14 +1,13 @@
 -- Rounding errors of binary64, as facts on whole numbers of units (`specs/Units.antt`): +, -, * and / of finite operands give the exact result to within an absolute error that
 -- the result's size bounds, one rule for normal and subnormal results. Signed sums and differences are in `Signed.antt`.
-use Rattle.std.proofs.Common.{◌≡◌, ℕ, zero, suc, ◌+◌, ◌-◌, ◌*◌, ◌/◌, ◌%◌, ◌^◌, ◌<◌, ◌≤◌, Bool, true, false, cond, not, ◌&&◌, T, eqb, ltb, leb, ℤ, pos, negsuc, sym, refl, ap, ◌∙◌, subst, le_trans, le_of_eq, lt_of_lt_of_le, lt_of_le_of_lt, lt_irrefl, mul-le-mul_right, mod-lt, mul_assoc, mul_comm, div-lt_iff_lt-mul, add-mul, lt_of_mul-lt-mul_right, mul-le-mul_left, mul-lt-mul_of_pos_right, mul-pos, div-add-mod', mul_right_comm, not-le_of_lt, le_of_mul-le-mul_right, mul_left_comm, arith, lit<, lit≤, eqb→eq, ltb→lt, lt→ltb, leb→le, nltb→le, pow_pos, pow_mono, pow-add}
-use mathlib.Core.Bool.{beq}
+use Rattle.std.proofs.Common.{◌≡◌, ℕ, zero, suc, ◌+◌, ◌-◌, ◌*◌, ◌/◌, ◌%◌, ◌^◌, ◌<◌, ◌≤◌, Bool, true, false, cond, not, T, eqb, ltb, sym, refl, ap, ◌∙◌, subst, le_trans, le_of_eq, lt_of_lt_of_le, lt_irrefl, mul-le-mul_right, mod-lt, mul_assoc, mul_comm, div-lt_iff_lt-mul, lt_of_mul-lt-mul_right, mul-le-mul_left, mul-lt-mul_of_pos_right, mul-pos, div-add-mod', not-le_of_lt, le_of_mul-le-mul_right, arith, eqb→eq, ltb→lt, leb→le, pow_pos, pow_mono, pow-add}
 use Prim.Native.Nat.{compare, Ordering}
-use native.Mathlib.Nat.{mul-mul-mul_comm, eq_of_mul-eq-mul_right}
+use native.Mathlib.Nat.{mul-mul-mul_comm}
 use lib.Dec.{is_le, compare_is_eq, nleb→lt, eqb_refl}
 use lib.Arith.{lt_of_le-ne}
-use lib.Ieee.{Float, nan, inf, fin, Format, binary64, prec, emax, low, up, down, size, nearest, units, round, unlike, sum, add, sub, neg, mul, div}
+use lib.Ieee.{Float, nan, inf, fin, binary64, low, up, down, size, nearest, round, unlike, sum, add, sub, mul, div}
 use lib.Ieee.Digits.{size-le}
-use lib.Ieee.Fits.{round_is, down_pos, up_pos}
+use lib.Ieee.Fits.{round_is, down_pos}
 use lib.Ieee.Exact.{HasValue, units_val}
 use lib.Ieee.Nearest.{closest}
 use lib.Ieee.Order.{drop, kept}

@@ -1,11 +1,9 @@
 -- The order of finite f64 values as one of whole numbers of units, and rounding that keeps it, signs and all: of two exact results the larger rounds to a value that is no smaller.
 -- A signed number is a difference of two whole numbers: `pl` less `mi`.
-use Rattle.std.proofs.Common.{◌≡◌, ℕ, zero, suc, ◌+◌, ◌-◌, ◌*◌, ◌/◌, ◌%◌, ◌^◌, ◌<◌, ◌≤◌, Bool, true, false, cond, not, ◌&&◌, ◌||◌, T, ltb, ◌⊎◌, ℤ, pos, negsuc, sym, refl, ap, ◌∙◌, subst, inl, inr, true≢false, le_trans, le_of_eq, lt_of_lt_of_le, mul-le-mul_right, mul_assoc, mul_comm, mul-le-mul_left, mul-pos, not-le_of_lt, le_of_mul-le-mul_right, arith, ltb→lt, nltb→le}
-use mathlib.Core.Bool.{beq}
-use lib.Ieee.{Float, nan, inf, fin, binary64, prec, emax, low, unlike, up, down, size, nearest, odd, units, round, sum, add, sub, mul, neg, lt, eq, le, fits, is_nan}
+use Rattle.std.proofs.Common.{◌≡◌, ℕ, zero, suc, ◌+◌, ◌-◌, ◌*◌, ◌^◌, ◌<◌, ◌≤◌, Bool, true, false, cond, not, T, ltb, ◌⊎◌, sym, refl, ap, ◌∙◌, subst, inl, inr, true≢false, le_trans, le_of_eq, mul-le-mul_right, mul-pos, not-le_of_lt, le_of_mul-le-mul_right, arith, ltb→lt, nltb→le}
+use lib.Ieee.{Float, nan, inf, fin, binary64, unlike, up, down, odd, units, round, sum, add, sub, mul, neg, lt, eq, le, fits}
 use lib.Ieee.Fits.{round_is, down_pos}
 use lib.Ieee.Bits.{is_true}
-use lib.Ieee.Exact.{HasValue}
 use lib.Ieee.Order.{round_mono, drop, kept}
 use lib.Ieee.Scale.{finite}
 use Rattle.float.proofs.Rounding.{U_pos, mul_is}

@@ -1,9 +1,9 @@
 -- The rounding error of a sum, a difference or a product of any signs: a result of less than 2 ^ (54 + h) units is within 2 ^ h units of the exact one. An exact result is (p - n) / c, a
 -- difference of whole numbers over a denominator, as in `Signed.antt`; in units it is (p - n) * U / c.
-use Rattle.std.proofs.Common.{◌≡◌, ℕ, ◌+◌, ◌*◌, ◌^◌, ◌<◌, ◌≤◌, Bool, true, false, sym, refl, ap, ◌∙◌, subst, mul-le-mul_right, lt_of_mul-lt-mul_right, mul-lt-mul_of_pos_right, mul-pos, le_of_mul-le-mul_right, arith}
-use lib.Ieee.{Float, binary64, round, add, sub, mul}
-use Rattle.float.proofs.Rounding.{U_pos, Rounded, Within, round_near}
-use Rattle.float.proofs.Signed.{pl, mi, Rnd, rnd_add, rnd_sub, rnd_mul}
+use Rattle.std.proofs.Common.{◌≡◌, ℕ, ◌+◌, ◌*◌, ◌^◌, ◌<◌, ◌≤◌, Bool, true, false, sym, ap, subst, mul-le-mul_right, lt_of_mul-lt-mul_right, mul-lt-mul_of_pos_right, le_of_mul-le-mul_right, arith}
+use lib.Ieee.{Float, binary64, round, add, sub}
+use Rattle.float.proofs.Rounding.{U_pos, round_near}
+use Rattle.float.proofs.Signed.{pl, mi, Rnd, rnd_add, rnd_sub}
 use Rattle.float.specs.Units.{U, Is}
 
 -- z is finite, and |z - (p - n) U / c| ≤ e, in units

@@ -1,9 +1,8 @@
 -- `order_key` is in the order that `before` states, and tells floats apart: so a comparison of two keys is totalOrder.
-use Rattle.std.proofs.Common.{◌≡◌, ℕ, zero, suc, ◌+◌, ◌-◌, ◌*◌, ◌^◌, ◌<◌, ◌≤◌, Bool, true, false, cond, not, ◌&&◌, ◌||◌, T, ltb, ◌⊎◌, ℤ, sym, refl, ap, ◌∙◌, subst, inl, inr, true≢false, le_of_eq, lt_of_lt_of_le, lt_of_le_of_lt, le_antisymm, not-le_of_lt, arith, lit<, ltb-false, ltb-true, le-ltb, lt-ltb}
-use mathlib.Core.Bool.{false≢true}
+use Rattle.std.proofs.Common.{◌≡◌, ℕ, ◌+◌, ◌-◌, ◌^◌, ◌<◌, ◌≤◌, Bool, true, false, cond, not, ◌&&◌, ◌||◌, T, ltb, ◌⊎◌, ℤ, sym, refl, ap, ◌∙◌, subst, inl, inr, true≢false, le_of_eq, lt_of_le_of_lt, le_antisymm, not-le_of_lt, arith, lit<, ltb-true, le-ltb, lt-ltb}
 use lib.Ieee.{Float, nan, inf, fin, binary64, neg, lt, eq, le, fits, is_nan, to_bits}
 use lib.Ieee.Fits.{neg-fits}
-use Rattle.float.proofs.Units.{Held, held, le_or_lt, number}
+use Rattle.float.proofs.Units.{held, le_or_lt, number}
 use Rattle.float.proofs.Pattern.{rank, bits_rank, rank_hi, rank_mono, rank_one}
 use Rattle.float.proofs.Order.{iff_eq, lt_is, lt_not_le, not_le_lt, neg_le}
 use Rattle.float.proofs.Signed.{le_val, val_le, neg_is}

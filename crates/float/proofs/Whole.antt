@@ -1,14 +1,13 @@
 -- Rounding to whole numbers: below 2 ^ 52 it is half of the whole part of 2 x, rounded up; from there on every value is a whole number; and it is odd.
-use Rattle.std.proofs.Common.{◌≡◌, ℕ, zero, suc, ◌+◌, ◌-◌, ◌*◌, ◌/◌, ◌^◌, ◌<◌, ◌≤◌, min, Bool, true, false, cond, not, T, ◌⊎◌, ℤ, pos, negsuc, sym, refl, ap, ◌∙◌, subst, inl, inr, true≢false, le_trans, le_of_eq, lt_of_lt_of_le, lt_of_le_of_lt, mul-le-mul_right, mul_assoc, mul_comm, div-lt_iff_lt-mul, mul-lt-mul_of_pos_right, mul-pos, not-le_of_lt, mul-div_cancel, arith, lit<, lit≤, pow_pos, pow_mono, pow-add}
-use mathlib.Core.Bool.{false≢true}
+use Rattle.std.proofs.Common.{◌≡◌, ℕ, zero, suc, ◌+◌, ◌-◌, ◌*◌, ◌/◌, ◌^◌, ◌<◌, ◌≤◌, min, Bool, true, false, cond, not, T, ◌⊎◌, ℤ, pos, sym, refl, ap, ◌∙◌, subst, inl, inr, true≢false, le_trans, le_of_eq, lt_of_lt_of_le, lt_of_le_of_lt, mul_assoc, mul_comm, div-lt_iff_lt-mul, mul-lt-mul_of_pos_right, mul-pos, not-le_of_lt, arith, lit<, lit≤, pow_pos, pow_mono, pow-add}
 use native.Mathlib.Nat.{pow-succ', add-div_right, div-div-eq-div-mul}
-use lib.Ieee.{Float, nan, inf, fin, binary64, up, down, round, mul, neg, lt, eq, le, fits, of_int, of_bits, to_unsigned}
-use lib.Ieee.Fits.{down_pos, round-fits, mul-fits}
+use lib.Ieee.{Float, nan, inf, fin, binary64, up, down, round, mul, neg, lt, eq, fits, of_int, of_bits, to_unsigned}
+use lib.Ieee.Fits.{down_pos, round-fits}
 use lib.Ieee.Nearest.{div_same}
 use lib.Ieee.Scale.{round_same}
 use Rattle.float.proofs.Rounding.{U_pos, mul_is}
-use Rattle.float.proofs.Units.{Held, held, exact_is, one_float, le_or_lt}
-use Rattle.float.proofs.Signed.{pl, mi, le_val, val_le, lt_val, val_lt, neg_is, round_neg}
+use Rattle.float.proofs.Units.{held, exact_is, one_float, le_or_lt}
+use Rattle.float.proofs.Signed.{pl, mi, val_le, lt_val, val_lt, neg_is, round_neg}
 use Rattle.float.proofs.Order as order
 use Rattle.float.proofs.Zeros.{nought_is, neg_below, zero_eq, below_inf, not_zero}
 use Rattle.float.specs.Units.{U, Is}

@@ -1,13 +1,13 @@
 -- The two zeros: which values compare equal to them or below them, and what adding one does. Every law on signs and sizes leans on these.
-use Rattle.std.proofs.Common.{◌≡◌, ℕ, zero, suc, ◌+◌, ◌-◌, ◌*◌, ◌<◌, ◌≤◌, Bool, true, false, cond, not, ◌&&◌, ◌||◌, T, eqb, ltb, ℤ, pos, sym, refl, ap, ◌∙◌, subst, true≢false, mul-pos, arith, lit<, pow_pos, ltb-true, le-ltb, lt-ltb, eq-eqb, eqb-true}
-use mathlib.Core.Bool.{beq, false≢true}
+use Rattle.std.proofs.Common.{◌≡◌, ℕ, zero, suc, ◌+◌, ◌-◌, ◌*◌, ◌<◌, ◌≤◌, Bool, true, false, cond, ◌&&◌, ◌||◌, T, eqb, ltb, ℤ, sym, refl, ap, ◌∙◌, subst, mul-pos, arith, lit<, pow_pos, le-ltb, lt-ltb, eq-eqb, eqb-true}
+use mathlib.Core.Bool.{beq}
 use native.Mathlib.Nat.{eq_of_mul-eq-mul_right}
-use lib.Ieee.{Float, nan, inf, fin, binary64, up, down, round, sum, add, sub, neg, lt, eq, le, fits, is_nan, of_bits}
+use lib.Ieee.{Float, nan, inf, fin, binary64, up, down, round, sum, add, sub, neg, lt, eq, fits, of_bits}
 use lib.Ieee.Fits.{up_pos, down_pos, neg-fits}
 use lib.Ieee.Bits.{of_bits-fits}
-use lib.Ieee.Scale.{finite, round_same}
+use lib.Ieee.Scale.{round_same}
 use Rattle.float.proofs.Rounding.{U_pos}
-use Rattle.float.proofs.Units.{Held, held, round_self, one_float}
+use Rattle.float.proofs.Units.{held, round_self, one_float}
 use Rattle.float.specs.Units.{U, Is}
 use Rattle.float.specs.Helpers.{nought}
 

@@ -1,6 +1,6 @@
 -- The float helpers, each by what it answers at every float: `nan`, an infinity `inf s`, or a finite value `fin s m e`, which is m * 2 ^ e with the sign s (true: negative).
 -- `finite` itself is the library's (lib.Ieee.Scale): true of `fin`, false of `inf` and `nan`.
-use Rattle.std.specs.Prelude.{ℕ, ◌+◌, ◌*◌, ◌/◌, Bool, true, false, cond, from_bits, is_nan, nat_le}
+use Rattle.std.specs.Prelude.{ℕ, ◌+◌, ◌*◌, ◌/◌, Bool, false, cond, from_bits, is_nan, nat_le}
 use lib.Ieee.{Float, nan, inf, fin, binary64, up, down, round, mul, neg, lt}
 
 abbrev pub nought : Float

@@ -1,5 +1,5 @@
 -- IEEE 754's totalOrder, as Rust's `total_cmp` has it: by value, and -0.0 before +0.0. The logic has one nan, and it stands last.
-use Rattle.std.specs.Prelude.{ℕ, ◌+◌, ◌-◌, ◌^◌, Bool, true, false, cond, not, ◌&&◌, ◌||◌, is_nan, nat_lt, to_bits, Float}
+use Rattle.std.specs.Prelude.{ℕ, ◌+◌, ◌-◌, ◌^◌, Bool, cond, not, ◌&&◌, ◌||◌, is_nan, nat_lt, to_bits, Float}
 use Rattle.std.specs.Float.{binary64}
 use Rattle.std.specs.Float.Ieee.{lt, eq}
 use Rattle.float.specs.Helpers.{negative}

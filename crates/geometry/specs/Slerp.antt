@@ -1,5 +1,5 @@
 -- The axis at t between two axes, on the great circle, and the angle between two. Equal and opposite axes have branches of their own, and so has a sum of exactly zero.
-use Rattle.std.specs.Prelude.{Bool, cond, Float}
+use Rattle.std.specs.Prelude.{cond, Float}
 use Rattle.std.specs.Float.Ieee as Ieee
 use Rattle.std.specs.Float.{binary64}
 use Rattle.std.specs.Float.Ieee.{of_bits}
@@ -14,8 +14,6 @@ use Rattle.trig.specs.declared.PairAnswer.TheVariants.{Values, OutOfRange as NoP
 use Rattle.geometry.specs.Vector.{vector, add, scale, dot, cross, norm, minus, times, over}
 use Rattle.geometry.specs.Direction.{along, unit_direction, unit_or}
 use Rattle.geometry.specs.declared.Vec3.{Vec3}
-use Rattle.geometry.specs.declared.Direction.{Direction}
-use Rattle.geometry.specs.declared.Direction.TheVariants.{Unit, Nowhere}
 
 -- what an answer gives a step, or a fallback where there is none
 abbrev pub with : {A : Type 0} → Answer → A → (Float → A) → A

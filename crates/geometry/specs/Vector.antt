@@ -2,7 +2,6 @@
 use Rattle.std.specs.Float.Ieee as Ieee
 use Rattle.std.specs.Prelude.{Float}
 use Rattle.std.specs.Float.{binary64}
-use Rattle.std.specs.Float.Ieee.{of_bits}
 use Rattle.root.specs.Root.{root}
 use Rattle.geometry.specs.declared.Vec3.{Vec3}
 

@@ -3,7 +3,7 @@
 -- with a hint of at most 36,000 a raw angle is at most 36,180, and two turns more are 36,900.
 use mathlib.Core.Path.{◌≡◌, refl, subst}
 use mathlib.Core.Bool.{true, false, and-eq-true_iff}
-use mathlib.Core.List.{List, [], ◌∷◌}
+use mathlib.Core.List.{List, []}
 use Prim.Native.Nat.{ℕ, ◌*◌, ◌^◌, ◌≤◌}
 use lib.Dec.{T, lit≤, lit<}
 use lib.Ieee as Ieee
@@ -11,12 +11,11 @@ use lib.Ieee.{Float, binary64, neg, of_bits, fits}
 use Rattle.lists.specs.Each.{Each}
 use Rattle.lists.proofs.Each.{each_more, fold_keeps}
 use Rattle.float.specs.Units.{U}
-use Rattle.float.specs.Helpers.{nought, one, size_of, clamp_unit, to_degrees}
+use Rattle.float.specs.Helpers.{nought, one, size_of, clamp_unit}
 use Rattle.float.proofs.UpTo.{UpTo, up_to_more, up_to_neg, up_to_add, up_to_sub, up_to_mul, nought_up_to}
 use Rattle.float.proofs.Bounded.{one_small}
 use Rattle.trig.specs.Arctangent.{arctangent_of}
 use Rattle.trig.specs.declared.Answer.{Answer}
-use Rattle.trig.specs.declared.Answer.TheVariants as Answer
 use Rattle.trig.proofs.AngleDegrees.{degrees_up_to}
 use Rattle.trig.proofs.Choices.{chosen}
 use Rattle.geometry.specs.declared.Vec3.{Vec3}
@@ -30,9 +29,9 @@ use Rattle.chain.specs.declared.Prepared.{Prepared}
 use Rattle.chain.specs.declared.Travel.{Travel}
 use Rattle.chain.specs.Prepared.{prepared}
 use Rattle.chain.proofs.NeverFallback.{within_up_to}
-use Rattle.inverse.specs.Subproblem.{gap_tolerance, shortest, square_part, fixed_at, turned_by, between_parts, sp1, both_solved, solved_pair, on_circle, one_pair, sine_beside, both_points, in_frame, about_circle, through_point, beside, sp2, apply_angle}
+use Rattle.inverse.specs.Subproblem.{gap_tolerance, shortest, square_part, fixed_at, turned_by, between_parts, sp1, both_solved, solved_pair, on_circle, sine_beside, both_points, in_frame, about_circle, through_point, beside, sp2, apply_angle}
 use Rattle.inverse.specs.AxisMap.{minus_one, map_of, axis_map_of, placed, hint_x, hint_y, angles}
-use Rattle.inverse.specs.Orientation.{sign_of, one_angle, one_joint_angles, sigma_of, shared_turn, by_total, parallel_angles, raw_of, raw_pair, two_joint_angles, counted_raw, one_raw, orientation_angles}
+use Rattle.inverse.specs.Orientation.{sign_of, one_angle, one_joint_angles, sigma_of, shared_turn, by_total, parallel_angles, raw_of, two_joint_angles, counted_raw, orientation_angles}
 use Rattle.inverse.specs.Wraps.{one_turn, two_turns, allowed, keep_allowed, angle_candidates, has, angles_of, add_pair, add_row, add_rows, add_raw, expand_wraps, second_travel}
 use Rattle.inverse.specs.Inverse.{raw_angles, wrapped, hint_within}
 use Rattle.inverse.specs.declared.Angles.{Angles}
@@ -41,11 +40,9 @@ use Rattle.inverse.specs.declared.RawAngles.{RawAngles}
 use Rattle.inverse.specs.declared.RawAngles.TheVariants.{At, Nothing}
 use Rattle.inverse.specs.declared.RawPair.{RawPair}
 use Rattle.inverse.specs.declared.Solved.{Solved}
-use Rattle.inverse.specs.declared.Solved.TheVariants as Solved
 use Rattle.inverse.specs.declared.SolvedAngle.{SolvedAngle}
 use Rattle.inverse.specs.declared.SolvedAngle.TheVariants.{Fixed, Free}
 use Rattle.inverse.specs.declared.SolvedPair.{SolvedPair}
-use Rattle.inverse.specs.declared.SolvedPair.TheVariants as SolvedPair
 use Rattle.inverse.specs.declared.SolvedPairs.{SolvedPairs}
 
 -- ---- subproblem 1: a fixed angle is at most 180 degrees

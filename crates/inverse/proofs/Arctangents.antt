@@ -42,7 +42,6 @@ use Rattle.inverse.specs.declared.Solved.{Solved}
 use Rattle.inverse.specs.declared.Solved.TheVariants.{Angle, Nothing}
 use Rattle.inverse.specs.declared.SolvedAngle.TheVariants.{Fixed, Free}
 use Rattle.inverse.specs.declared.SolvedPair.{SolvedPair}
-use Rattle.inverse.specs.declared.SolvedPair.TheVariants as SolvedPair
 use Rattle.inverse.specs.declared.SolvedPairs.{SolvedPairs}
 
 cond_same : {A : Type 0} (b : Bool) (x x' y y' : A) → (b ≡ true → x ≡ x') → (b ≡ false → y ≡ y') → cond b x y ≡ cond b x' y'

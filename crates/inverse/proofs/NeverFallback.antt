@@ -20,18 +20,16 @@ use Rattle.geometry.specs.declared.Direction.TheVariants.{Unit as UnitOf}
 use Rattle.geometry.specs.Direction.{unit_direction, along}
 use Rattle.geometry.proofs.FitVectors.{FitVec}
 use Rattle.chain.specs.declared.Checked.{Checked}
-use Rattle.chain.specs.declared.Checked.TheVariants as Checked
 use Rattle.chain.specs.declared.Joints.{Joints}
 use Rattle.chain.specs.declared.Kinematics.{Kinematics}
 use Rattle.chain.specs.declared.Posed.{Posed}
-use Rattle.chain.specs.declared.Posed.TheVariants as Posed
 use Rattle.chain.specs.declared.Prepared.{Prepared}
 use Rattle.chain.specs.declared.ToolPose.{ToolPose}
 use Rattle.chain.specs.Prepared.{prepared}
 use Rattle.chain.proofs.UnitAxes.{FitAxes, UnitChain, chain_units}
 use Rattle.inverse.specs.Wraps.{expand_wraps, second_travel}
 use Rattle.inverse.specs.Solutions.{origin, sorted}
-use Rattle.inverse.specs.Inverse.{pose_at, misses, joints_at, reached, solutions, refused, raw_angles, wrapped, outcome, solved, inverse_check, toward, unless_refused, inverse}
+use Rattle.inverse.specs.Inverse.{pose_at, misses, reached, solutions, refused, raw_angles, wrapped, outcome, solved, inverse_check, toward, unless_refused, inverse}
 use Rattle.inverse.specs.Choose.{hint_of, picked, chosen, choose}
 use Rattle.inverse.specs.declared.Angles.{Angles}
 use Rattle.inverse.specs.declared.Answers.{Answers}

@@ -6,7 +6,6 @@ use Rattle.lists.specs.Search.{first_hit}
 use Rattle.float.specs.Helpers.{nought, size_of, maximum}
 use Rattle.geometry.specs.Vector.{minus}
 use Rattle.chain.specs.declared.Checked.{Checked}
-use Rattle.chain.specs.declared.Checked.TheVariants as Checked
 use Rattle.chain.specs.declared.Joints.{Joints}
 use Rattle.chain.specs.declared.Kinematics.{Kinematics}
 use Rattle.chain.specs.declared.ToolPose.{ToolPose}

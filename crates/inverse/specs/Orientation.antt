@@ -12,9 +12,7 @@ use Rattle.inverse.specs.Subproblem.{shortest, sp1, sp2, apply_angle}
 use Rattle.inverse.specs.AxisMap.{minus_one, axis_map_of, placed, hint_x, hint_y, angles}
 use Rattle.inverse.specs.declared.SolvedAngle.TheVariants.{Fixed, Free}
 use Rattle.inverse.specs.declared.Solved.{Solved}
-use Rattle.inverse.specs.declared.Solved.TheVariants as Solved
 use Rattle.inverse.specs.declared.SolvedPair.{SolvedPair}
-use Rattle.inverse.specs.declared.SolvedPair.TheVariants as SolvedPair
 use Rattle.inverse.specs.declared.SolvedPairs.{SolvedPairs}
 use Rattle.inverse.specs.declared.Angles.{Angles}
 use Rattle.inverse.specs.declared.RawAngles.{RawAngles}

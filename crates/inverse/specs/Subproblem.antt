@@ -15,7 +15,6 @@ use Rattle.inverse.specs.declared.SolvedAngle.TheVariants.{Fixed, Free}
 use Rattle.inverse.specs.declared.Solved.{Solved}
 use Rattle.inverse.specs.declared.Solved.TheVariants.{Angle, Nothing}
 use Rattle.inverse.specs.declared.SolvedPair.{SolvedPair}
-use Rattle.inverse.specs.declared.SolvedPair.TheVariants as SolvedPair
 use Rattle.inverse.specs.declared.SolvedPairs.{SolvedPairs}
 
 -- 1e-7 and 1e-9

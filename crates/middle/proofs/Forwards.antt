@@ -8,11 +8,9 @@ use Rattle.geometry.specs.declared.Direction.{Direction}
 use Rattle.geometry.specs.declared.Direction.TheVariants.{Unit, Nowhere}
 use Rattle.geometry.specs.Direction.{unit_or, along, unit_direction}
 use Rattle.chain.specs.declared.Checked.{Checked}
-use Rattle.chain.specs.declared.Checked.TheVariants as Checked
 use Rattle.chain.specs.declared.Joints.{Joints}
 use Rattle.chain.specs.declared.Kinematics.{Kinematics}
 use Rattle.chain.specs.declared.Posed.{Posed}
-use Rattle.chain.specs.declared.Posed.TheVariants as Posed
 use Rattle.chain.specs.declared.ToolPose.{ToolPose}
 use Rattle.chain.specs.Check.{served, has_direction}
 use Rattle.chain.specs.Prepared.{prepared}

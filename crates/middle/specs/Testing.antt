@@ -1,5 +1,5 @@
 -- The tolerance test of two neighbours, and the rule of document 01's halving: two neighbours are divided if they fail the test and their midpoint differs from each by more than 1e-12.
-use Rattle.std.specs.Prelude.{Bool, true, false, not, cond, ◌&&◌, ◌||◌, Float}
+use Rattle.std.specs.Prelude.{Bool, true, not, cond, ◌&&◌, ◌||◌, Float}
 use Rattle.std.specs.Float.Ieee as Ieee
 use Rattle.std.specs.Float.{binary64}
 use Rattle.std.specs.Float.Ieee.{of_bits}

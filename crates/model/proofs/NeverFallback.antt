@@ -9,7 +9,6 @@ use Rattle.geometry.specs.declared.Turn.{Turn}
 use Rattle.geometry.specs.Turn.{turn_of}
 use Rattle.geometry.proofs.Range.{plain_turn, turn_served}
 use Rattle.chain.specs.declared.Checked.{Checked}
-use Rattle.chain.specs.declared.Checked.TheVariants as Checked
 use Rattle.chain.specs.declared.Joints.{Joints}
 use Rattle.chain.specs.declared.Kinematics.{Kinematics}
 use Rattle.chain.specs.Check.{demand, then, chain_check, joints_finite, joints_within, chain_within}

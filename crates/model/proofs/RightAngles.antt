@@ -19,7 +19,6 @@ use Rattle.chain.specs.declared.RotaryJoint.{RotaryJoint}
 use Rattle.chain.specs.declared.Kinematics.{Kinematics}
 use Rattle.chain.specs.declared.Joints.{Joints}
 use Rattle.chain.specs.declared.Checked.{Checked}
-use Rattle.chain.specs.declared.Checked.TheVariants as Checked
 use Rattle.chain.specs.Forward.{table_vector}
 use Rattle.chain.specs.Prepared.{prepared, spin_of, second_spin, unit_axis}
 use Rattle.model.specs.declared.Placed.{Placed}

@@ -7,14 +7,12 @@ use Rattle.geometry.specs.Turn.{turn_of}
 use Rattle.geometry.specs.Rigid.{from_axes, identity, inverse, compose}
 use Rattle.refusal.specs.Numbers.{not_finite, carrier_unknown, too_large}
 use Rattle.chain.specs.declared.Mount.{Mount}
-use Rattle.chain.specs.declared.Mount.TheVariants as Mount
 use Rattle.chain.specs.declared.Spin.{Spin}
 use Rattle.chain.specs.declared.Prepared.{Prepared}
 use Rattle.chain.specs.declared.Turns.{Turns}
 use Rattle.chain.specs.declared.Joints.{Joints}
 use Rattle.chain.specs.declared.Kinematics.{Kinematics}
 use Rattle.chain.specs.declared.Checked.{Checked}
-use Rattle.chain.specs.declared.Checked.TheVariants as Checked
 use Rattle.chain.specs.Check.{demand, first_refusal, joints_finite, joints_within, chain_within}
 use Rattle.chain.specs.Forward.{head_point, head_vector, table_point, table_vector}
 use Rattle.chain.specs.Prepared.{prepared}

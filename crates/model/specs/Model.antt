@@ -3,12 +3,10 @@
 use Rattle.std.specs.Prelude.{Bool, cond, ◌&&◌, List, [], ◌∷◌, map, ℕ, zero, suc, ◌+◌, ◌-◌, ltb, leb, length}
 use Rattle.refusal.specs.Numbers.{malformed}
 use Rattle.chain.specs.declared.Checked.{Checked}
-use Rattle.chain.specs.declared.Checked.TheVariants as Checked
 use Rattle.chain.specs.Bytes.{byte_at, little_endian, spare}
 use Rattle.chain.specs.Check.{demand, first_refusal}
 use Rattle.model.specs.declared.Link.{Link}
 use Rattle.model.specs.declared.LinkRead.{LinkRead}
-use Rattle.model.specs.declared.LinkRead.TheVariants as LinkRead
 
 -- ---- a link, by where it starts
 -- past a text's length and bytes

@@ -1,17 +1,16 @@
 -- The square root by the cases of the code: nan, zeros, what is below zero, infinity, normal and subnormal values; and that the two inner functions give the definition's root.
-use Rattle.std.proofs.Common.{◌≡◌, ℕ, zero, suc, ◌+◌, ◌-◌, ◌*◌, ◌/◌, ◌%◌, ◌^◌, ◌<◌, ◌≤◌, Bool, true, false, cond, not, ◌&&◌, ◌||◌, T, eqb, ltb, ◌⊎◌, sym, refl, ap, ◌∙◌, subst, inl, inr, true≢false, le_trans, le_of_eq, lt_of_lt_of_le, lt_of_le_of_lt, mul-le-mul_right, mul_assoc, mul_comm, mul-lt-mul_of_pos_right, mul-pos, le-div_iff_mul-le, not-le_of_lt, arith, lit<, lit≤, pow_pos, pow_mono, pow-add, ltb-false, ltb-true, lt-ltb, eq-eqb, eqb-true}
-use mathlib.Core.Bool.{beq, false≢true}
+use Rattle.std.proofs.Common.{◌≡◌, ℕ, zero, suc, ◌+◌, ◌-◌, ◌*◌, ◌/◌, ◌%◌, ◌^◌, ◌<◌, ◌≤◌, Bool, true, false, not, ◌&&◌, T, eqb, ◌⊎◌, sym, refl, ap, ◌∙◌, subst, inl, inr, true≢false, le_trans, le_of_eq, lt_of_lt_of_le, lt_of_le_of_lt, mul_assoc, mul-lt-mul_of_pos_right, mul-pos, not-le_of_lt, arith, lit<, lit≤, pow_pos, pow-add, ltb-true, eq-eqb, eqb-true}
+use mathlib.Core.Bool.{false≢true}
 use lib.Ieee.{Float, nan, inf, fin, binary64, up, down, size, round, mul, div, lt, eq, le, ne, fits, is_nan, to_bits, of_bits}
-use lib.Ieee.Fits.{up_pos, down_pos, mul-fits}
+use lib.Ieee.Fits.{up_pos, down_pos}
 use lib.Ieee.Bits.{of_bits-to_bits}
-use lib.Ieee.Exact.{HasValue}
-use lib.Ieee.Scale.{finite, round_same}
+use lib.Ieee.Scale.{round_same}
 use borrow.Author.Tests.{eqb-false, not-true, not-false}
 use Rattle.float.proofs.Rounding.{U_pos, mul_is}
 use Rattle.float.proofs.Fields.{fields_is}
-use Rattle.float.proofs.Units.{Held, held, exact_is, le_or_lt, one_number, units_div, number}
+use Rattle.float.proofs.Units.{held, exact_is, le_or_lt, one_number, units_div, number}
 use Rattle.float.proofs.Pattern.{rank, bits_rank, rank_lo, rank_hi}
-use Rattle.float.proofs.Zeros.{neg_below, zero_eq, below_inf, split_and}
+use Rattle.float.proofs.Zeros.{split_and}
 use Rattle.float.specs.Helpers.{nought}
 use Rattle.float.proofs.Signed.{le_val, val_le}
 use Rattle.float.proofs.Order as order

@@ -1,16 +1,16 @@
 -- The gap law: a rounded norm of at most c has three parts of at most c each, in floats, for every tolerance c from 2 ^ -400 to 2 ^ 400. Below about 1e-160 it is false: squares vanish.
-use Rattle.std.proofs.Common.{◌≡◌, ℕ, zero, suc, ◌+◌, ◌-◌, ◌*◌, ◌/◌, ◌%◌, ◌^◌, ◌<◌, ◌≤◌, Bool, true, false, not, T, ◌⊎◌, sym, refl, ap, ◌∙◌, subst, inl, inr, le_trans, le_of_eq, lt_of_lt_of_le, lt_of_le_of_lt, le_of_lt, mul-le-mul_right, mul_assoc, mul_comm, mul-le-mul, le_antisymm, lt_of_mul-lt-mul_right, mul-lt-mul_of_pos_right, mul-pos, not-le_of_lt, le_of_mul-le-mul_right, arith, lit<, lit≤, pow_pos, pow_mono, pow-add}
+use Rattle.std.proofs.Common.{◌≡◌, ℕ, suc, ◌+◌, ◌-◌, ◌*◌, ◌^◌, ◌<◌, ◌≤◌, Bool, true, false, T, ◌⊎◌, sym, refl, ap, ◌∙◌, subst, inl, inr, le_trans, le_of_eq, lt_of_lt_of_le, lt_of_le_of_lt, mul-le-mul_right, mul_assoc, mul-le-mul, le_antisymm, lt_of_mul-lt-mul_right, mul-lt-mul_of_pos_right, mul-pos, not-le_of_lt, le_of_mul-le-mul_right, arith, lit<, lit≤, pow_pos, pow_mono, pow-add}
 use mathlib.Core.Bool.{false≢true}
 use lib.Ieee.{Float, nan, inf, fin, binary64, size, round, mul, lt, eq, le, fits, of_bits}
 use lib.Ieee.Fits.{round-fits, mul-fits}
-use lib.Ieee.Digits.{size-lt, size-le, size_reaches}
+use lib.Ieee.Digits.{size-lt, size_reaches}
 use lib.Ieee.Bits.{is_true, of_bits-fits}
 use lib.Ieee.Nearest.{closest}
 use lib.Ieee.Order.{round_mono}
 use lib.Ieee.Scale.{finite, round_same}
-use Rattle.float.proofs.Rounding.{Within, closest_within, round_near}
+use Rattle.float.proofs.Rounding.{closest_within, round_near}
 use Rattle.float.proofs.Rounding.{U_pos, Rounded, mul_is}
-use Rattle.float.proofs.Units.{Held, held, exact_is, le_or_lt, one_number, is_finite}
+use Rattle.float.proofs.Units.{Held, held, exact_is, le_or_lt}
 use Rattle.float.proofs.Signed.{pl, mi, le_val, val_le}
 use Rattle.float.specs.Helpers.{size_of}
 use Rattle.float.proofs.Order as order
@@ -19,7 +19,6 @@ use Rattle.root.specs.Root.{root, root_units, whole_root}
 use Rattle.root.proofs.RootParts.{round_halves}
 use Rattle.root.proofs.RootOrder.{norm, gap_law_at, root_of_units, z_lo, z_hi, m_lo, m_hi}
 use Rattle.float.specs.Units.{U, Is}
-use Rattle.root.specs.RootSteps.{WholeRoot}
 use Rattle.root.proofs.WholeRoot.{whole_root_lem}
 
 four-U : 2 ^ 1076 ≡ 4 * U

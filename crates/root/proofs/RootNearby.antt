@@ -1,11 +1,11 @@
 -- The nearest whole number to a root: a guess that is confirmed in 64 bits, or the root of a whole number; and from there the answer's bits.
-use Rattle.std.proofs.Common.{◌≡◌, ℕ, zero, suc, ◌+◌, ◌-◌, ◌*◌, ◌/◌, ◌%◌, ◌^◌, ◌<◌, ◌≤◌, Bool, true, false, not, T, ◌⊎◌, sym, refl, ap, ◌∙◌, subst, inl, inr, le_trans, le_of_eq, lt_of_lt_of_le, lt_of_le_of_lt, mul-le-mul_right, mul-le-mul, mul-lt-mul_of_pos_right, mul-pos, div-add-mod', not-le_of_lt, arith, lit<, lit≤, pow_pos}
-use lib.Ieee.{Float, nan, inf, fin, binary64, round, of_bits, fits, is_nan, nan_bits}
+use Rattle.std.proofs.Common.{◌≡◌, ℕ, zero, suc, ◌+◌, ◌-◌, ◌*◌, ◌/◌, ◌%◌, ◌^◌, ◌<◌, ◌≤◌, Bool, false, not, T, ◌⊎◌, sym, refl, ap, ◌∙◌, subst, inl, inr, le_trans, le_of_eq, lt_of_lt_of_le, lt_of_le_of_lt, mul-le-mul_right, mul-le-mul, mul-lt-mul_of_pos_right, mul-pos, div-add-mod', not-le_of_lt, arith, lit<, pow_pos}
+use lib.Ieee.{Float, nan, inf, fin, binary64, of_bits, fits, is_nan, nan_bits}
 use lib.Ieee.Fits.{round-fits}
 use lib.Ieee.Bits.{of_bits-fits, nan_bits_is}
 use Rattle.float.proofs.Units.{le_or_lt}
 use Rattle.root.proofs.WholeRoot.{root_lt, root_ge}
-use Rattle.root.specs.Root.{root_units, whole_root, Rooted}
+use Rattle.root.specs.Root.{root_units, whole_root}
 use Rattle.root.proofs.RootParts.{radicand_lo, radicand_hi, rooted, radicand, expo, result_is, n_is, between, h_lo, e_small}
 use Rattle.root.proofs.RootUnique.{one_root}
 use Rattle.float.specs.Units.{Is}

@@ -1,17 +1,14 @@
 -- The square root of every f64 above zero is the nearest value (`root-rooted`); roots are in the order of what they are roots of (`root-mono`); a norm that is small has small parts, grows with its parts, and is
 -- the same from either end.
-use Rattle.std.proofs.Common.{◌≡◌, ℕ, zero, suc, ◌+◌, ◌-◌, ◌*◌, ◌/◌, ◌%◌, ◌^◌, ◌<◌, ◌≤◌, Bool, true, false, cond, not, ◌&&◌, ◌||◌, T, ◌⊎◌, ℤ, pos, negsuc, sym, refl, ap, ◌∙◌, subst, inl, inr, true≢false, le_trans, le_of_eq, lt_of_lt_of_le, lt_of_le_of_lt, le_of_lt, mul-le-mul_right, mul_assoc, mul_comm, mul-le-mul, lt_of_mul-lt-mul_right, mul-lt-mul_of_pos_right, mul-pos, not-le_of_lt, arith, lit<, lit≤, pow_pos, pow_mono, pow-add}
-use mathlib.Core.Bool.{false≢true}
-use lib.Pow.{pow-lt}
+use Rattle.std.proofs.Common.{◌≡◌, ℕ, zero, suc, ◌+◌, ◌-◌, ◌*◌, ◌^◌, ◌<◌, ◌≤◌, Bool, true, false, T, ◌⊎◌, ℤ, sym, refl, ap, ◌∙◌, subst, inl, inr, true≢false, le_trans, le_of_eq, lt_of_lt_of_le, le_of_lt, mul-le-mul_right, mul_assoc, mul-le-mul, lt_of_mul-lt-mul_right, mul-lt-mul_of_pos_right, mul-pos, not-le_of_lt, arith, pow_pos, pow_mono, pow-add}
 use lib.Ieee.{Float, nan, inf, fin, binary64, unlike, up, down, size, round, add, sub, mul, lt, eq, le, fits, is_nan, of_bits}
-use lib.Ieee.Fits.{up_pos, down_pos, mul-fits, add-fits, round-fits}
+use lib.Ieee.Fits.{mul-fits, add-fits}
 use lib.Ieee.Digits.{size-lt, size-le, size_reaches}
-use lib.Ieee.Bits.{is_true, of_bits-fits}
-use lib.Ieee.Exact.{HasValue}
+use lib.Ieee.Bits.{is_true}
 use lib.Ieee.Order.{round_mono}
 use lib.Ieee.Scale.{finite}
 use Rattle.float.proofs.Rounding.{U_pos, mul_is}
-use Rattle.float.proofs.Units.{Held, held, le_or_lt, one_number, is_finite}
+use Rattle.float.proofs.Units.{held, le_or_lt, one_number, is_finite}
 use Rattle.float.proofs.Signed.{pl, mi, le_val, val_le, rnd_mono1, rnd_self, rnd_add}
 use Rattle.float.proofs.Monotone.{add_mono, add_mono_right, le_top}
 use Rattle.float.proofs.Commute.{square_sub_symmetric}
@@ -23,7 +20,6 @@ use Rattle.root.proofs.RootParts.{rooted, radicand}
 use Rattle.root.proofs.RootCases.{Above, above_of}
 use Rattle.float.specs.Units.{U, Is}
 use Rattle.float.specs.Helpers.{nought, size_of}
-use Rattle.root.specs.RootSteps.{WholeRoot}
 use Rattle.root.proofs.WholeRoot.{whole_root_lem, whole_root_mono}
 
 -- ---- the nearest value: v is q * 2 ^ j, and q has at most 53 digits

@@ -1,16 +1,14 @@
 -- The root of m * 2 ^ f, rounded, from 54 digits of the root of a whole number.
-use Rattle.std.proofs.Common.{◌≡◌, ℕ, zero, suc, ◌+◌, ◌-◌, ◌*◌, ◌/◌, ◌%◌, ◌^◌, ◌<◌, ◌≤◌, Bool, true, false, not, T, ltb, ◌⊎◌, sym, refl, ap, ◌∙◌, subst, inl, inr, true≢false, le_trans, le_of_eq, lt_of_lt_of_le, lt_of_le_of_lt, le_of_lt, mul-le-mul_right, mod-lt, mul_assoc, mul_comm, div-lt_iff_lt-mul, mul-le-mul, le_antisymm, lt_of_mul-lt-mul_right, mul-le-mul_left, mul-lt-mul_of_pos_right, mul-pos, lt_of_not-le, div-add-mod', le-div_iff_mul-le, not-le_of_lt, le_of_mul-le-mul_right, arith, lit<, lit≤, ltb→lt, nltb→le, pow_pos, pow_mono, pow-add}
+use Rattle.std.proofs.Common.{◌≡◌, ℕ, zero, suc, ◌+◌, ◌-◌, ◌*◌, ◌/◌, ◌%◌, ◌^◌, ◌<◌, ◌≤◌, false, ◌⊎◌, sym, refl, ap, ◌∙◌, subst, inl, inr, le_trans, le_of_eq, lt_of_lt_of_le, lt_of_le_of_lt, mul-le-mul_right, mul_assoc, mul-le-mul, le_antisymm, lt_of_mul-lt-mul_right, mul-lt-mul_of_pos_right, mul-pos, not-le_of_lt, arith, lit<, pow_pos, pow_mono, pow-add}
 use native.Mathlib.Nat.{pow-succ'}
 use lib.Ieee.{Float, nan, inf, fin, binary64, size, units, round, to_bits, of_bits, fits, is_nan, nan_bits}
 use lib.Ieee.Digits.{size-lt, size-le}
-use lib.Ieee.Fits.{round_is, round-fits}
-use lib.Ieee.Bits.{of_bits-to_bits, of_bits-fits, nan_bits_is}
+use lib.Ieee.Fits.{round_is}
 use lib.Ieee.Exact.{HasValue, units_val}
 use lib.Ieee.Nearest.{closest, closest_same}
 use Rattle.float.proofs.Rounding.{closest_within}
-use Rattle.float.proofs.Rounding.{U_pos}
 use Rattle.float.proofs.Fields.{fields_is}
-use Rattle.float.proofs.Units.{one_float, le_or_lt}
+use Rattle.float.proofs.Units.{le_or_lt}
 use Rattle.root.proofs.WholeRoot.{root_lt, root_ge}
 use Rattle.root.specs.Root.{whole_root, root_units, Rooted}
 use Rattle.float.specs.Units.{U, Is}

@@ -1,12 +1,12 @@
 -- The bracket `Rooted` holds of one value: so it says all of what a correctly rounded root is, and `root` is that.
-use Rattle.std.proofs.Common.{◌≡◌, ℕ, zero, suc, ◌+◌, ◌-◌, ◌*◌, ◌/◌, ◌%◌, ◌^◌, ◌<◌, ◌≤◌, Bool, true, false, T, ◌⊎◌, sym, refl, ap, ◌∙◌, subst, inl, inr, le_trans, le_of_eq, lt_of_lt_of_le, lt_of_le_of_lt, mul_assoc, mul_comm, mul-le-mul, le_antisymm, lt_of_mul-lt-mul_right, lt_of_not-le, not-le_of_lt, arith, pow_pos, pow_mono, pow-add}
+use Rattle.std.proofs.Common.{◌≡◌, ℕ, ◌+◌, ◌-◌, ◌*◌, ◌^◌, ◌<◌, ◌≤◌, false, T, ◌⊎◌, sym, ap, ◌∙◌, subst, inl, inr, le_of_eq, lt_of_le_of_lt, mul_assoc, mul-le-mul, le_antisymm, lt_of_mul-lt-mul_right, lt_of_not-le, not-le_of_lt, arith, pow_mono, pow-add}
 use lib.Ieee.{Float, binary64, fits}
 use lib.Ieee.Fits.{round-fits}
 use Rattle.float.proofs.Units.{one_float, le_or_lt}
 use Rattle.root.specs.Root.{root, root_units, whole_root, Rooted}
 use Rattle.root.proofs.RootCases.{Above}
 use Rattle.root.proofs.RootOrder.{root_rooted}
-use Rattle.float.specs.Units.{U, Is}
+use Rattle.float.specs.Units.{Is}
 
 root_lt : (a b : ℕ) → a * a < b * b → a < b
 root_lt a b h = lt_of_not-le (λ (g : b ≤ a). not-le_of_lt h (mul-le-mul g g))

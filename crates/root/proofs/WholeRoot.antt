@@ -1,5 +1,5 @@
 -- Square roots of whole numbers, cut to whole numbers: the steps by which the code and the definition find them, that there is one, and that they are in order.
-use Rattle.std.proofs.Common.{◌≡◌, ℕ, zero, suc, ◌+◌, ◌-◌, ◌*◌, ◌/◌, ◌%◌, ◌^◌, ◌<◌, ◌≤◌, Bool, true, false, cond, not, T, leb, ◌⊎◌, sym, ap, ◌∙◌, subst, inl, inr, le_trans, le_of_eq, lt_of_lt_of_le, le_of_suc-le-suc, lt_of_le_of_lt, mul-le-mul_right, mod-lt, div-lt_iff_lt-mul, mul-le-mul, le_antisymm, lt_of_mul-lt-mul_right, mul-le-mul_left, mul-pos, lt_of_not-le, div-add-mod', not-le_of_lt, div-mul-le_self, le_of_mul-le-mul_right, arith, lit<, lit≤, leb→le, pow_pos}
+use Rattle.std.proofs.Common.{◌≡◌, ℕ, zero, suc, ◌+◌, ◌-◌, ◌*◌, ◌/◌, ◌%◌, ◌^◌, ◌<◌, ◌≤◌, Bool, true, false, cond, not, T, leb, sym, ap, subst, le_trans, le_of_eq, lt_of_lt_of_le, lt_of_le_of_lt, mul-le-mul_right, mod-lt, mul-le-mul, le_antisymm, lt_of_not-le, div-add-mod', not-le_of_lt, div-mul-le_self, le_of_mul-le-mul_right, arith, lit<, leb→le, pow_pos}
 use native.Mathlib.Nat.{pow-succ'}
 use lib.Dec.{nleb→lt}
 use lib.Ieee.{size}

@@ -1,6 +1,6 @@
 -- The square root of every f64, as IEEE 754 has it: the nearest value, a tie to the even one. Worked out over whole numbers. `proofs/RootUnique.antt` has that no other value
 -- lies as near; a tie cannot occur.
-use Rattle.std.specs.Prelude.{◌≡◌, ℕ, zero, suc, ◌+◌, ◌-◌, ◌*◌, ◌/◌, ◌^◌, ◌<◌, ◌≤◌, Bool, true, false, cond, nat_le, Float}
+use Rattle.std.specs.Prelude.{◌≡◌, ℕ, zero, suc, ◌+◌, ◌-◌, ◌*◌, ◌/◌, ◌^◌, ◌<◌, ◌≤◌, true, false, cond, nat_le, Float}
 use Rattle.std.specs.Float.{nan, inf, fin, binary64}
 use Rattle.std.specs.Float.Ieee.{up, down, size, round}
 use Rattle.float.specs.Units.{Is}

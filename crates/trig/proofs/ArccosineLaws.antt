@@ -1,5 +1,5 @@
 -- What `arccosine` answers is right, for every c: the root is finite and not below +0, so the angle is from +0 to pi. Assumes nothing.
-use Rattle.std.proofs.Common.{◌≡◌, ℕ, zero, suc, ◌+◌, ◌-◌, ◌*◌, ◌^◌, ◌<◌, ◌≤◌, true, false, not, T, ℤ, pos, sym, refl, ap, ◌∙◌, subst, true≢false, mul-le-mul, mul-pos, arith, lit<, lit≤}
+use Rattle.std.proofs.Common.{◌≡◌, ℕ, zero, suc, ◌+◌, ◌-◌, ◌*◌, ◌^◌, ◌<◌, ◌≤◌, true, false, T, ℤ, pos, sym, refl, ap, ◌∙◌, subst, true≢false, mul-le-mul, mul-pos, arith, lit<, lit≤}
 use lib.Ieee.{Float, nan, inf, fin, binary64, up, down, add, sub, mul, neg, of_bits, le, is_nan, fits}
 use lib.Ieee.Fits.{down_pos, mul-fits}
 use lib.Ieee.Order.{le_of_values}

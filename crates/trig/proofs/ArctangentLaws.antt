@@ -1,5 +1,5 @@
 -- What `arctangent` answers is right, for every y and x: each step of specs/Arctangent.antt in turn. And it is odd in y, in every bit. Assumes nothing.
-use Rattle.std.proofs.Common.{◌≡◌, ℕ, zero, ◌+◌, ◌-◌, ◌/◌, ◌≤◌, Bool, true, false, cond, not, ◌&&◌, T, ltb, ◌⊎◌, ℤ, sym, refl, ap, ◌∙◌, inl, inr, true≢false, ltb→lt, nltb→le}
+use Rattle.std.proofs.Common.{◌≡◌, ℕ, ◌+◌, ◌-◌, ◌/◌, ◌≤◌, Bool, true, false, cond, not, ◌&&◌, T, ltb, ◌⊎◌, ℤ, sym, refl, ap, ◌∙◌, inl, inr, true≢false, ltb→lt, nltb→le}
 use lib.Ieee.{Float, fin, binary64, div, neg, of_bits, le, lt, eq, fits}
 use lib.Ieee.Fits.{add-fits, mul-fits, neg-fits}
 use Rattle.float.proofs.Order.{neg_neg}

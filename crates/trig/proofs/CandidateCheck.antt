@@ -1,5 +1,5 @@
 -- The check of a float that is offered as the angle of the tangent t, from 0 to pi / 4. Assumes nothing.
-use Rattle.std.proofs.Common.{◌≡◌, ℕ, ◌+◌, ◌-◌, ◌*◌, ◌/◌, ◌^◌, ◌<◌, ◌≤◌, true, false, T, negsuc, sym, refl, ap, true≢false, le_trans, mul-le-mul, mul-pos, le_of_mul-le-mul_right, arith, lit<, lit≤, pow_pos}
+use Rattle.std.proofs.Common.{◌≡◌, ℕ, ◌+◌, ◌*◌, ◌^◌, ◌<◌, ◌≤◌, true, false, T, negsuc, sym, refl, ap, true≢false, le_trans, mul-le-mul, mul-pos, le_of_mul-le-mul_right, arith, lit<, lit≤, pow_pos}
 use lib.Ieee.{Float, nan, inf, fin, binary64, up, down, add, mul, of_bits, le, lt, fits}
 use lib.Ieee.Fits.{down_pos}
 use lib.Ieee.Order.{le_of_values}

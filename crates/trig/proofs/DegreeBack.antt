@@ -1,10 +1,9 @@
 -- Turning back: the pair of the negated angle has the same cosine and the sine negated, in every bit, a zero staying
 -- +0.0 both ways (`pair-back`). Assumes nothing.
-use Rattle.std.proofs.Common.{◌≡◌, ℕ, zero, ◌+◌, ◌-◌, Bool, true, false, cond, not, ◌⊎◌, ℤ, sym, refl, ap, ◌∙◌, inl, inr, true≢false}
+use Rattle.std.proofs.Common.{◌≡◌, ℕ, Bool, true, false, cond, ◌⊎◌, ℤ, sym, refl, ap, ◌∙◌, inl, inr, true≢false}
 use lib.Ieee.{Float, nan, inf, fin, binary64, neg, add, of_bits, le, lt, eq}
 use lib.Ieee.Fits.{neg-fits}
 use Rattle.float.proofs.Order.{neg_neg, neg_le}
-use Rattle.trig.specs.Fraction.{negated}
 use Rattle.trig.specs.Kernel.{plus_zero, one}
 use Rattle.trig.specs.declared.PairAnswer.{PairAnswer}
 use Rattle.trig.specs.declared.PairAnswer.TheVariants.{Values, OutOfRange}

@@ -1,7 +1,7 @@
 -- The error of the steps in degrees, over whole numbers: what is left after quarter turns is document 01's rest at the
 -- exact remainder times Pi over 180, to within 24 W in radians, so the two sums are within 2 ^ -50 (`degree-near`).
 -- Assumes nothing.
-use Rattle.std.proofs.Common.{◌≡◌, ℕ, suc, ◌+◌, ◌-◌, ◌*◌, ◌/◌, ◌%◌, ◌^◌, ◌<◌, ◌≤◌, Bool, true, false, not, sym, refl, ap, subst, le_trans, le_of_eq, le_of_suc-le-suc, le_of_lt, mul-le-mul_right, div-lt_iff_lt-mul, le_antisymm, lt_of_mul-lt-mul_right, mul-lt-mul_of_pos_right, mul-pos, div-add-mod', le-div_iff_mul-le, le_of_mul-le-mul_right, arith, lit<, lit≤}
+use Rattle.std.proofs.Common.{◌≡◌, ℕ, suc, ◌+◌, ◌-◌, ◌*◌, ◌/◌, ◌%◌, ◌^◌, ◌<◌, ◌≤◌, Bool, true, false, sym, refl, ap, subst, le_trans, le_of_eq, le_of_suc-le-suc, le_of_lt, mul-le-mul_right, div-lt_iff_lt-mul, le_antisymm, lt_of_mul-lt-mul_right, mul-lt-mul_of_pos_right, mul-pos, div-add-mod', le-div_iff_mul-le, le_of_mul-le-mul_right, arith, lit<, lit≤}
 use lib.Ieee.{Float, binary64, of_bits}
 use Rattle.float.specs.Units.{U, Is}
 use Rattle.float.specs.Helpers.{to_radians}
@@ -9,7 +9,7 @@ use Rattle.float.proofs.Rounding.{Within, W, U-is, U_pos, Rounded, mul_rounded}
 use Rattle.trig.specs.Fraction.{Frac, Near}
 use Rattle.trig.specs.Taylor.{sin_sum, cos_sum}
 use Rattle.trig.specs.Angle.{pi_num, pi_den, nearest_k, under, gap, place, wave}
-use Rattle.trig.specs.Kernel.{one, sine_kernel, cosine_kernel}
+use Rattle.trig.specs.Kernel.{sine_kernel, cosine_kernel}
 use Rattle.trig.specs.Waves.{placed}
 use Rattle.trig.specs.Degrees.{degree_wave}
 use Rattle.trig.specs.DegreeSteps.{quarter_turns, quarter_turn, eighth_turn}

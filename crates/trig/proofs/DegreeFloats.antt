@@ -1,5 +1,5 @@
 -- From a float to a whole number of 2 ^ -47 degrees, and back; and what the steps of the code come to. Assumes nothing.
-use Rattle.std.proofs.Common.{◌≡◌, ℕ, zero, suc, ◌+◌, ◌-◌, ◌*◌, ◌/◌, ◌%◌, ◌^◌, ◌<◌, ◌≤◌, Bool, true, false, cond, T, ltb, ◌⊎◌, ℤ, pos, negsuc, sym, refl, ap, ◌∙◌, subst, inl, inr, true≢false, le_trans, le_of_eq, lt_of_le_of_lt, le_of_lt, mul-le-mul_right, mul_assoc, mul-lt-mul_of_pos_right, mul-pos, arith, lit<, ltb→lt, nltb→le, pow_mono, pow-add}
+use Rattle.std.proofs.Common.{◌≡◌, ℕ, suc, ◌+◌, ◌-◌, ◌*◌, ◌%◌, ◌^◌, ◌<◌, ◌≤◌, Bool, true, false, cond, T, ltb, ◌⊎◌, ℤ, pos, negsuc, sym, refl, ap, ◌∙◌, subst, inl, inr, true≢false, le_trans, le_of_eq, lt_of_le_of_lt, le_of_lt, mul-le-mul_right, mul_assoc, mul-lt-mul_of_pos_right, mul-pos, arith, lit<, ltb→lt, nltb→le, pow_mono, pow-add}
 use lib.Ieee.{Float, nan, inf, fin, binary64, up, down, mul, of_int, of_bits, lt, fits}
 use lib.Ieee.Fits.{down_pos}
 use lib.Ieee.Exact.{HasValue, round_exact}
@@ -9,10 +9,10 @@ use Rattle.float.specs.Helpers.{to_radians}
 use Rattle.float.proofs.Units.{le_or_lt, exact_is}
 use Rattle.float.proofs.Rounding.{U_pos, mul_is}
 use Rattle.trig.specs.Fraction.{Near}
-use Rattle.trig.specs.Kernel.{one, sine_kernel, cosine_kernel}
+use Rattle.trig.specs.Kernel.{sine_kernel, cosine_kernel}
 use Rattle.trig.specs.Waves.{placed}
 use Rattle.trig.specs.Degrees.{degree_wave}
-use Rattle.trig.specs.DegreeSteps.{quarter_turns, quarter_turn, eighth_turn, in_units, forty_five, radians_of, beside, degree_k, degree_below, degree_rest, degree_float, UpToWidest}
+use Rattle.trig.specs.DegreeSteps.{quarter_turns, quarter_turn, in_units, forty_five, radians_of, beside, degree_k, degree_below, degree_rest, degree_float, UpToWidest}
 use Rattle.trig.proofs.Choices.{not_true, is_true}
 use Rattle.trig.proofs.SumError.{int_is}
 use Rattle.trig.proofs.Scaling.{whole_is, digits_fit, units_of}

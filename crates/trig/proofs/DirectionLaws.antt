@@ -1,5 +1,5 @@
 -- The angle that each eighth of the plane gives is in the direction of (x, y): y above zero, then below it, then zero. And what the code's tests say. Assumes nothing.
-use Rattle.std.proofs.Common.{◌≡◌, ℕ, zero, suc, ◌+◌, ◌-◌, ◌*◌, ◌/◌, ◌^◌, ◌<◌, ◌≤◌, Bool, true, false, not, ◌&&◌, ◌||◌, T, eqb, ltb, ◌⊎◌, ℤ, pos, negsuc, sym, refl, ap, ◌∙◌, subst, inl, inr, true≢false, le_of_eq, mul-le-mul_right, eq-zero-or-pos, le_antisymm, mul-pos, mul-div_cancel, arith, lit<, lit≤, ltb→lt, lt→ltb}
+use Rattle.std.proofs.Common.{◌≡◌, ℕ, zero, suc, ◌+◌, ◌*◌, ◌/◌, ◌^◌, ◌<◌, ◌≤◌, Bool, true, false, ◌&&◌, ◌||◌, T, eqb, ltb, ◌⊎◌, ℤ, pos, negsuc, sym, refl, ap, ◌∙◌, subst, inl, inr, true≢false, le_of_eq, mul-le-mul_right, eq-zero-or-pos, le_antisymm, mul-pos, mul-div_cancel, arith, lit<, lit≤, ltb→lt, lt→ltb}
 use lib.Dec.{eqb_refl}
 use lib.Ieee.{Float, nan, inf, fin, binary64, up, down, neg, div, of_bits, le, lt, eq, fits}
 use lib.Ieee.Fits.{down_pos, up_pos}

@@ -1,5 +1,5 @@
 -- Worked examples of the contracts' words, by computation: the definitions say what is meant. Assumes nothing.
-use Rattle.std.proofs.Common.{◌≡◌, ◌-◌, ◌*◌, ◌<◌, ◌≤◌, true, false, pos, refl, not-le_of_lt, lit<, lit≤}
+use Rattle.std.proofs.Common.{◌≡◌, ◌-◌, ◌*◌, true, false, pos, refl, not-le_of_lt, lit<, lit≤}
 use lib.Ieee.{fin, binary64, of_bits}
 use Rattle.trig.specs.Fraction.{Near, Positive}
 use Rattle.trig.specs.Taylor.{rising, terms, sin_sum, cos_sum}

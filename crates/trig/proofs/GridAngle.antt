@@ -1,5 +1,5 @@
 -- An angle i * 2 ^ -53 whose tangent is t, found by bisection, or by a check of the residual in floats. Assumes nothing.
-use Rattle.std.proofs.Common.{◌≡◌, ℕ, ◌+◌, ◌-◌, ◌*◌, ◌/◌, ◌^◌, ◌<◌, ◌≤◌, min, Bool, true, false, cond, not, T, ltb, pos, negsuc, sym, refl, ap, subst, true≢false, le_trans, le_of_eq, lt_of_lt_of_le, lt_of_le_of_lt, le_of_lt, mul-le-mul_right, div-lt_iff_lt-mul, mul-le-mul, mul-le-mul_left, mul-lt-mul_of_pos_right, mul-pos, le_of_mul-le-mul_right, arith, lit<, lit≤, ltb→lt, lt→ltb, pow_pos}
+use Rattle.std.proofs.Common.{◌≡◌, ℕ, ◌+◌, ◌-◌, ◌*◌, ◌/◌, ◌^◌, ◌<◌, ◌≤◌, min, Bool, true, false, cond, not, T, pos, negsuc, sym, refl, ap, subst, true≢false, le_trans, le_of_eq, lt_of_lt_of_le, lt_of_le_of_lt, le_of_lt, mul-le-mul_right, div-lt_iff_lt-mul, mul-le-mul, mul-le-mul_left, mul-lt-mul_of_pos_right, mul-pos, le_of_mul-le-mul_right, arith, lit<, lit≤, ltb→lt, lt→ltb, pow_pos}
 use lib.Ieee.{Float, nan, inf, fin, binary64, up, down, add, mul, of_int, of_bits, to_unsigned, le, lt}
 use lib.Ieee.Fits.{down_pos}
 use Rattle.float.proofs.Rounding.{Within}

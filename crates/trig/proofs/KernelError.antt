@@ -1,5 +1,5 @@
 -- sin r and cos r in floats, for a float r that is within 24 * 2 ^ -57 of a fraction rn / rd of at most 0.79: within 2 ^ -50 of the Taylor sums at rn / rd, in Horner's form. Assumes nothing.
-use Rattle.std.proofs.Common.{◌≡◌, ℕ, ◌+◌, ◌-◌, ◌*◌, ◌^◌, ◌<◌, ◌≤◌, false, ap, mul-le-mul_right, mul-le-mul, mul-pos, le_of_mul-le-mul_right, arith, lit≤}
+use Rattle.std.proofs.Common.{◌≡◌, ℕ, ◌+◌, ◌*◌, ◌^◌, ◌<◌, ◌≤◌, false, ap, mul-le-mul_right, mul-le-mul, mul-pos, le_of_mul-le-mul_right, arith, lit≤}
 use lib.Ieee.{Float, binary64, mul}
 use Rattle.float.proofs.Rounding.{Within}
 use Rattle.float.specs.Units.{U, Is}

@@ -1,6 +1,6 @@
 -- The laws of the four functions for the crates above, in words of `sine_of`, `cosine_of`, `arctangent_of` and `arccosine_of` alone.
 -- `T (fits binary64 x)` says that x is a double: it holds of every value that code has. Assumes nothing.
-use Rattle.std.proofs.Common.{◌≡◌, zero, Bool, true, false, cond, not, T, pos, sym, refl, ap, ◌∙◌, subst}
+use Rattle.std.proofs.Common.{◌≡◌, Bool, true, false, cond, not, T, pos, sym, refl, ap, ◌∙◌, subst}
 use lib.Ieee.{Float, nan, inf, fin, binary64, round, add, sub, mul, neg, of_bits, le, lt, eq, fits}
 use lib.Ieee.Fits.{neg-fits}
 use Rattle.float.proofs.Bounded.{clamp_fits}

@@ -1,7 +1,7 @@
 -- The promise of `arctangent`, from an angle that is aimed at the tangent of the smaller of |y|, |x| over the larger. Assumes nothing.
-use Rattle.std.proofs.Common.{◌≡◌, ℕ, zero, suc, ◌+◌, ◌-◌, ◌*◌, ◌/◌, ◌%◌, ◌^◌, ◌<◌, ◌≤◌, Bool, true, false, cond, not, T, leb, ℤ, sym, ap, ◌∙◌, subst, le_trans, le_refl, le_of_lt, mul-le-mul_right, mul-le-mul_left, mul-pos, le_of_mul-le-mul_right, arith, lit<, lit≤, leb→le}
+use Rattle.std.proofs.Common.{◌≡◌, ℕ, zero, suc, ◌+◌, ◌*◌, ◌%◌, ◌^◌, ◌<◌, ◌≤◌, Bool, true, false, cond, not, T, leb, ℤ, sym, ap, ◌∙◌, subst, le_trans, le_refl, le_of_lt, mul-le-mul_right, mul-le-mul_left, mul-pos, le_of_mul-le-mul_right, arith, lit<, lit≤, leb→le}
 use lib.Dec.{nleb→lt}
-use lib.Ieee.{Float, nan, inf, fin, up, down, le, lt}
+use lib.Ieee.{Float, nan, inf, fin, up, down, le}
 use lib.Ieee.Fits.{down_pos}
 use lib.Ieee.Positive.{num as top, den as bot, den_pos as bot-pos}
 use Rattle.float.proofs.Rounding.{Within}

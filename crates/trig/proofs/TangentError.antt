@@ -1,5 +1,5 @@
 -- From |t * C(i) - S(i)| for a rounded tangent t of p / q, to |p * C - q * S| ≤ 2 ^ -46 * q at an angle near to i. Assumes nothing.
-use Rattle.std.proofs.Common.{◌≡◌, ℕ, zero, ◌+◌, ◌-◌, ◌*◌, ◌^◌, ◌<◌, ◌≤◌, refl, ap, mul-le-mul_right, mul-le-mul, mul-le-mul_left, mul-pos, le_of_mul-le-mul_right, arith, lit<, lit≤}
+use Rattle.std.proofs.Common.{◌≡◌, ℕ, ◌+◌, ◌-◌, ◌*◌, ◌^◌, ◌<◌, ◌≤◌, refl, ap, mul-le-mul_right, mul-le-mul, mul-le-mul_left, mul-pos, le_of_mul-le-mul_right, arith, lit<, lit≤}
 use Rattle.float.proofs.Rounding.{Within}
 use Rattle.float.specs.Units.{U}
 use Rattle.float.proofs.Rounding.{W, U-is, U_pos}

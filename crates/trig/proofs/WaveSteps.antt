@@ -1,5 +1,5 @@
 -- The steps of `sine` and `cosine` in the code's order, and their symmetry: the sine is odd and the cosine is even, in every bit. Assumes nothing.
-use Rattle.std.proofs.Common.{◌≡◌, ℕ, zero, ◌+◌, ◌-◌, ◌*◌, ◌%◌, ◌<◌, ◌≤◌, Bool, true, false, cond, not, ◌&&◌, ◌||◌, T, eqb, ltb, leb, ◌⊎◌, ℤ, sym, refl, ap, ◌∙◌, subst, inl, inr, true≢false, not-le_of_lt, arith, ltb→lt, leb→le, nltb→le}
+use Rattle.std.proofs.Common.{◌≡◌, ℕ, ◌+◌, ◌-◌, ◌*◌, ◌%◌, ◌<◌, ◌≤◌, Bool, true, false, cond, not, ◌&&◌, ◌||◌, T, eqb, ltb, leb, ◌⊎◌, ℤ, sym, refl, ap, ◌∙◌, subst, inl, inr, true≢false, not-le_of_lt, arith, ltb→lt, leb→le, nltb→le}
 use lib.Dec.{nleb→lt}
 use lib.Ieee.{Float, fin, up, down, neg, of_bits, le, lt, eq}
 use Rattle.float.proofs.Order.{neg_neg}

@@ -1,6 +1,6 @@
 -- The arctangent as the code makes it: a polynomial's guess, a check of its residual in floats, and a bisection where the check fails. Definitions only.
 -- Angles from 0 to Pi / 4 are whole numbers i of 2 ^ -53, up to 7074237752028440. The other angles are reached from there in whole numbers of 2 ^ -51.
-use Rattle.std.specs.Prelude.{◌≡◌, ℕ, zero, suc, ◌+◌, ◌-◌, ◌*◌, ◌/◌, ◌≤◌, Bool, true, false, cond, not, ◌&&◌, pos, negsuc, ◌==◌, from_bits, nat_lt, Float}
+use Rattle.std.specs.Prelude.{◌≡◌, ℕ, zero, suc, ◌+◌, ◌-◌, ◌/◌, ◌≤◌, Bool, true, false, cond, not, ◌&&◌, pos, negsuc, ◌==◌, from_bits, nat_lt, Float}
 use Rattle.std.specs.Float.{fin, binary64}
 use Rattle.std.specs.Float.Ieee.{add, sub, mul, div, neg, of_int, to_unsigned, le, lt, eq}
 use Rattle.trig.specs.Kernel.{plus_zero, one, sine_kernel, cosine_kernel}

@@ -1,7 +1,7 @@
 -- What an arctangent promises: the angle r of the point (x, y), for finite y and x. Definitions only.
 -- S(r) and C(r) are the sums of Angle.antt at the float r, with its own reduction by k.
 use Rattle.std.specs.Prelude.{◌≡◌, ℕ, ◌+◌, ◌*◌, ◌<◌, Bool, true, false, cond, T, pos, negsuc, nat_le, Float}
-use Rattle.std.specs.Float.{nan, inf, fin}
+use Rattle.std.specs.Float.{fin}
 use Rattle.std.specs.Float.Ieee.{neg, le}
 use Rattle.std.specs.Float.Ieee.Positive.{num as top, den as bot}
 use Rattle.float.specs.Helpers.{negative}

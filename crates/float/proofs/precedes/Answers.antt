@@ -1,4 +1,4 @@
-use Rattle.std.proofs.Common.{sym, ◌∙◌, rules}
+use Rattle.std.proofs.Common.{sym, rules}
 use Rattle.float.proofs.TotalOrder.{before_is}
 use Rattle.float.proofs.precedes.Goals as goal
 

@@ -1,4 +1,3 @@
-use Rattle.std.proofs.Common.{rules}
 use Rattle.float.specs.TotalOrder.{total_compare}
 use Rattle.float.proofs.total_cmp.Goals as goal
 

@@ -1,8 +1,6 @@
 -- `trig::arccosine` meets its contract. Assumes nothing.
-use Rattle.std.proofs.Common.{◌≡◌, T, sym, ◌∙◌, subst, rules}
-use lib.Ieee.{binary64, fits}
-use Rattle.trig.specs.Arccosine.{arccosine_of, ArccosineAnswer}
-use Rattle.trig.specs.declared.Answer.{Answer}
+use Rattle.std.proofs.Common.{T, sym, ◌∙◌, subst}
+use Rattle.trig.specs.Arccosine.{ArccosineAnswer}
 use Rattle.trig.proofs.ArccosineLaws.{arccosine_answer, arccosine_served, arccosine_refused}
 use Rattle.trig.proofs.arccosine.Goals as goal
 

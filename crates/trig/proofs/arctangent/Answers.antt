@@ -1,8 +1,6 @@
 -- `trig::arctangent` meets its contract. Assumes nothing.
-use Rattle.std.proofs.Common.{◌≡◌, T, sym, subst, rules}
-use lib.Ieee.{binary64, fits}
-use Rattle.trig.specs.declared.Answer.{Answer}
-use Rattle.trig.specs.Arctangent.{arctangent_of, ArctangentAnswer}
+use Rattle.std.proofs.Common.{T, sym, subst}
+use Rattle.trig.specs.Arctangent.{ArctangentAnswer}
 use Rattle.trig.proofs.ArctangentLaws.{arctangent_answer, arctangent_y, arctangent_x, arctangent_both, is_finite}
 use Rattle.std.proofs.lemmas.Bool.{not_from_true}
 use Rattle.std.proofs.lemmas.Bool.{not_from_false}

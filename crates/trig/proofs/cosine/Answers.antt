@@ -1,6 +1,5 @@
 -- `trig::cosine` meets its contract. Assumes nothing.
-use Rattle.std.proofs.Common.{T, sym, ap, ◌∙◌, subst, rules}
-use lib.Ieee.{binary64, fits}
+use Rattle.std.proofs.Common.{T, sym, ap, ◌∙◌, subst}
 use Rattle.trig.specs.declared.Answer.TheVariants.{Value}
 use Rattle.trig.specs.Waves.{CosineAnswer}
 use Rattle.trig.proofs.WaveLaws.{cosine_answer, cosine_served, cosine_refused}

@@ -1,6 +1,5 @@
 -- `trig::of_degrees` meets its contract. Assumes nothing.
-use Rattle.std.proofs.Common.{T, sym, ◌∙◌, subst, rules}
-use lib.Ieee.{binary64, fits}
+use Rattle.std.proofs.Common.{T, sym, ◌∙◌, subst}
 use Rattle.trig.specs.Degrees.{TurnRight}
 use Rattle.trig.proofs.DegreeLaws.{pair_answer, pair_served, pair_refused}
 use Rattle.trig.proofs.of_degrees.Goals as goal

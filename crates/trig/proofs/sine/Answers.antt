@@ -1,6 +1,5 @@
 -- `trig::sine` meets its contract. Assumes nothing.
-use Rattle.std.proofs.Common.{T, sym, ap, ◌∙◌, subst, rules}
-use lib.Ieee.{binary64, fits}
+use Rattle.std.proofs.Common.{T, sym, ap, ◌∙◌, subst}
 use Rattle.trig.specs.declared.Answer.TheVariants.{Value}
 use Rattle.trig.specs.Waves.{SineAnswer}
 use Rattle.trig.proofs.WaveLaws.{sine_answer, sine_served, sine_refused}

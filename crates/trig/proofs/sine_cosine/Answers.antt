@@ -1,6 +1,5 @@
 -- `trig::sine_cosine` meets its contract. Assumes nothing.
-use Rattle.std.proofs.Common.{T, sym, ◌∙◌, subst, rules}
-use lib.Ieee.{binary64, fits}
+use Rattle.std.proofs.Common.{T, sym, ◌∙◌, subst}
 use Rattle.trig.specs.Waves.{PairRight}
 use Rattle.trig.proofs.WaveLaws.{pair_answer, pair_served, pair_refused}
 use Rattle.trig.proofs.sine_cosine.Goals as goal

@@ -1,5 +1,4 @@
 use mathlib.Core.Path.{sym}
-use borrow.Author.Rules.{rules}
 use Rattle.chain.proofs.Bytes.{byte_past}
 use Rattle.chain.proofs.bytes_at.byte_at.Goals as goal
 

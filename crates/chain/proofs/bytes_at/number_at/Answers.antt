@@ -1,4 +1,3 @@
-use borrow.Author.Rules.{rules}
 use Rattle.chain.specs.Bytes.{number_at}
 use Rattle.chain.proofs.bytes_at.number_at.Goals as goal
 

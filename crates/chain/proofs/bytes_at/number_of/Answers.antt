@@ -1,4 +1,3 @@
-use borrow.Author.Rules.{rules}
 use Rattle.chain.proofs.Bytes.{nan_pattern, number_pattern}
 use Rattle.chain.proofs.bytes_at.number_of.Goals as goal
 

@@ -1,4 +1,3 @@
-use borrow.Author.Rules.{rules}
 use Rattle.chain.proofs.Bytes.{two_is, two_past}
 use Rattle.chain.proofs.bytes_at.u16_at.Goals as goal
 

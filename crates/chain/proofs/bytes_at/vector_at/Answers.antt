@@ -1,4 +1,3 @@
-use borrow.Author.Rules.{rules}
 use Rattle.chain.specs.Bytes.{vector_at}
 use Rattle.chain.proofs.bytes_at.vector_at.Goals as goal
 

@@ -1,5 +1,4 @@
 use mathlib.Core.Path.{◌∙◌}
-use borrow.Author.Rules.{rules}
 use Rattle.chain.proofs.Bytes.{word_is}
 use Rattle.chain.proofs.bytes_at.word_at.Goals as goal
 

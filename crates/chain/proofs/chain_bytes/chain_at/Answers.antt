@@ -1,5 +1,4 @@
 use native.Mathlib.Omega.{arith}
-use borrow.Author.Rules.{rules}
 use Rattle.chain.proofs.Bytes.{room_one}
 use Rattle.chain.specs.ChainBytes.{chain_at}
 use Rattle.chain.proofs.chain_bytes.chain_at.Goals as goal

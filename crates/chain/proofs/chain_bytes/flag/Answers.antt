@@ -1,4 +1,3 @@
-use borrow.Author.Rules.{rules}
 use Rattle.chain.specs.ChainBytes.{flag}
 use Rattle.chain.proofs.chain_bytes.flag.Goals as goal
 

@@ -1,4 +1,3 @@
-use borrow.Author.Rules.{rules}
 use Rattle.chain.specs.ChainBytes.{no_chain}
 use Rattle.chain.proofs.chain_bytes.no_chain.Goals as goal
 

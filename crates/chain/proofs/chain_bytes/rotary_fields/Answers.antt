@@ -1,4 +1,3 @@
-use borrow.Author.Rules.{rules}
 use Rattle.chain.specs.ChainBytes.{rotary_fields}
 use Rattle.chain.proofs.chain_bytes.rotary_fields.Goals as goal
 

@@ -1,4 +1,3 @@
-use borrow.Author.Rules.{rules}
 use Rattle.chain.specs.ChainBytes.{travel_at}
 use borrow.Author.Tests.{eq-eqb, ne_eqb}
 use Rattle.chain.proofs.chain_bytes.travel_at.Goals as goal

@@ -1,7 +1,5 @@
-use Prim.Native.Nat.{◌-◌, ◌≤◌}
 use native.Mathlib.Omega.{arith}
-use mathlib.Core.Path.{◌≡◌, sym, ◌∙◌}
-use Rattle.chain.specs.ChainBytes.{zeros}
+use mathlib.Core.Path.{sym, ◌∙◌}
 use Rattle.chain.proofs.Bytes.{zeros_start, zeros_more, zeros_found, zeros_end}
 use Rattle.chain.proofs.chain_bytes.zeros.Goals as goal
 

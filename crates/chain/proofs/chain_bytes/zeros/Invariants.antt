@@ -1,8 +1,6 @@
 use Prim.Native.Nat.{◌-◌, ◌≤◌}
-use native.Mathlib.Omega.{arith}
-use mathlib.Core.Path.{◌≡◌, sym, ◌∙◌}
+use mathlib.Core.Path.{◌≡◌}
 use Rattle.chain.specs.ChainBytes.{zeros}
-use Rattle.chain.proofs.Bytes.{zeros_start, zeros_more, zeros_found, zeros_end}
 use Rattle.chain.proofs.chain_bytes.zeros.Given as goal
 
 abbrev pub invariant-loop-i : goal.invariant-loop-i

@@ -1,4 +1,3 @@
-use borrow.Author.Rules.{rules}
 use Rattle.chain.specs.Check.{all_within}
 use Rattle.chain.proofs.checks.all_within.Goals as goal
 

@@ -1,4 +1,3 @@
-use borrow.Author.Rules.{rules}
 use Rattle.chain.proofs.checks.chain_check.Goals as goal
 
 pub directed_check-requires : goal.directed_check-requires

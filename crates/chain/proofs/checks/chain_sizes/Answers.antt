@@ -1,4 +1,3 @@
-use borrow.Author.Rules.{rules}
 use Rattle.chain.specs.Check.{chain_sizes}
 use Rattle.chain.proofs.checks.chain_sizes.Goals as goal
 

@@ -1,4 +1,3 @@
-use borrow.Author.Rules.{rules}
 use borrow.Author.Tests.{eq-eqb, ne_eqb}
 use Rattle.chain.specs.Check.{chain_within}
 use Rattle.chain.proofs.checks.chain_within.Goals as goal

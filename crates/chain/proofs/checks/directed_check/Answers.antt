@@ -1,4 +1,3 @@
-use borrow.Author.Rules.{rules}
 use Rattle.chain.specs.Check.{chain_check}
 use Rattle.chain.proofs.checks.directed_check.Goals as goal
 

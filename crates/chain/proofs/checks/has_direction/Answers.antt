@@ -1,4 +1,3 @@
-use borrow.Author.Rules.{rules}
 use Rattle.chain.specs.Check.{has_direction}
 use Rattle.chain.proofs.checks.has_direction.Goals as goal
 

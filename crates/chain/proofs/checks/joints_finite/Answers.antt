@@ -1,4 +1,3 @@
-use borrow.Author.Rules.{rules}
 use Rattle.chain.specs.Check.{joints_finite}
 use Rattle.chain.proofs.checks.joints_finite.Goals as goal
 

@@ -1,4 +1,3 @@
-use borrow.Author.Rules.{rules}
 use Rattle.chain.specs.Check.{joints_within}
 use Rattle.chain.proofs.checks.joints_within.Goals as goal
 

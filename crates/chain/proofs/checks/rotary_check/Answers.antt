@@ -1,4 +1,3 @@
-use borrow.Author.Rules.{rules}
 use Rattle.chain.specs.Check.{rotary_check}
 use Rattle.chain.proofs.checks.rotary_check.Goals as goal
 

@@ -1,4 +1,3 @@
-use borrow.Author.Rules.{rules}
 use Rattle.chain.specs.Check.{rotary_within}
 use Rattle.chain.proofs.checks.rotary_within.Goals as goal
 

@@ -1,4 +1,3 @@
-use borrow.Author.Rules.{rules}
 use Rattle.chain.proofs.checks.then.Goals as goal
 
 pub returns-in_default : goal.returns-in_default

@@ -1,4 +1,3 @@
-use borrow.Author.Rules.{rules}
 use Rattle.chain.specs.Check.{travel_good}
 use Rattle.chain.proofs.checks.travel_good.Goals as goal
 

@@ -1,4 +1,3 @@
-use borrow.Author.Rules.{rules}
 use Rattle.chain.specs.Check.{within}
 use Rattle.chain.proofs.checks.within.Goals as goal
 

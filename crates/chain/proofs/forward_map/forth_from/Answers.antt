@@ -1,4 +1,3 @@
-use borrow.Author.Rules.{rules}
 use Rattle.chain.specs.Forward.{forth_from}
 use Rattle.chain.proofs.forward_map.forth_from.Goals as goal
 

@@ -1,4 +1,3 @@
-use borrow.Author.Rules.{rules}
 use Rattle.chain.specs.Forward.{forward}
 use Rattle.chain.proofs.forward_map.forward.Goals as goal
 

@@ -1,4 +1,3 @@
-use borrow.Author.Rules.{rules}
 use Rattle.chain.specs.Forward.{forward_check}
 use Rattle.chain.proofs.forward_map.forward_check.Goals as goal
 

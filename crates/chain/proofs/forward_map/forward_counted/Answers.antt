@@ -1,5 +1,4 @@
 use native.Mathlib.Omega.{arith}
-use borrow.Author.Rules.{rules}
 use Rattle.chain.proofs.Bytes.{room_one}
 use Rattle.chain.specs.ReadySteps.{forward_counted, ready_counted}
 use Rattle.std.proofs.lemmas.Bool.{not_from_true}

@@ -1,4 +1,3 @@
-use borrow.Author.Rules.{rules}
 use Rattle.chain.specs.Forward.{forward_sizes}
 use Rattle.chain.proofs.forward_map.forward_sizes.Goals as goal
 

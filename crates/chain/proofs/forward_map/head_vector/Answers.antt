@@ -1,4 +1,3 @@
-use borrow.Author.Rules.{rules}
 use Rattle.chain.specs.Forward.{head_vector}
 use Rattle.chain.proofs.forward_map.head_vector.Goals as goal
 

@@ -1,4 +1,3 @@
-use borrow.Author.Rules.{rules}
 use Rattle.chain.specs.Forward.{length_good}
 use Rattle.chain.proofs.forward_map.length_good.Goals as goal
 

@@ -1,4 +1,3 @@
-use borrow.Author.Rules.{rules}
 use Rattle.lists.proofs.Tests.{is_after_all, isn't}
 use Rattle.chain.specs.ReadySteps.{numbers_good}
 use Rattle.std.proofs.lemmas.Bool.{not_from_true}

@@ -1,4 +1,3 @@
-use borrow.Author.Rules.{rules}
 use Rattle.chain.specs.Forward.{posed}
 use Rattle.chain.proofs.forward_map.posed.Goals as goal
 

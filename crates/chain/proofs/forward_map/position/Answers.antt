@@ -1,4 +1,3 @@
-use borrow.Author.Rules.{rules}
 use Rattle.chain.specs.Forward.{position}
 use Rattle.chain.proofs.forward_map.position.Goals as goal
 

@@ -1,4 +1,3 @@
-use borrow.Author.Rules.{rules}
 use Rattle.chain.specs.Forward.{reach}
 use Rattle.chain.proofs.forward_map.reach.Goals as goal
 

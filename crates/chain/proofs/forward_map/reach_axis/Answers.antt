@@ -1,4 +1,3 @@
-use borrow.Author.Rules.{rules}
 use Rattle.chain.specs.Forward.{reach_axis}
 use Rattle.chain.proofs.forward_map.reach_axis.Goals as goal
 

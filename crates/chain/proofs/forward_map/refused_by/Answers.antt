@@ -1,4 +1,3 @@
-use borrow.Author.Rules.{rules}
 use Rattle.chain.proofs.forward_map.refused_by.Goals as goal
 
 pub returns-in-Passed : goal.returns-in-Passed

@@ -1,4 +1,3 @@
-use borrow.Author.Rules.{rules}
 use Rattle.chain.proofs.forward_map.refused_read.Goals as goal
 
 pub returns-in-Refused : goal.returns-in-Refused

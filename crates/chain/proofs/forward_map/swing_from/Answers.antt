@@ -1,4 +1,3 @@
-use borrow.Author.Rules.{rules}
 use Rattle.chain.proofs.forward_map.swing_from.Goals as goal
 
 pub returns-in-Table : goal.returns-in-Table

@@ -1,4 +1,3 @@
-use borrow.Author.Rules.{rules}
 use Rattle.chain.specs.Forward.{table_point}
 use Rattle.chain.proofs.forward_map.table_point.Goals as goal
 

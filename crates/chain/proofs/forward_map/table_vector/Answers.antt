@@ -1,4 +1,3 @@
-use borrow.Author.Rules.{rules}
 use Rattle.chain.specs.Forward.{table_vector}
 use Rattle.chain.proofs.forward_map.table_vector.Goals as goal
 

@@ -1,4 +1,3 @@
-use borrow.Author.Rules.{rules}
 use Rattle.chain.specs.Forward.{turns_of}
 use Rattle.chain.proofs.forward_map.turns_of.Goals as goal
 

@@ -1,4 +1,3 @@
-use borrow.Author.Rules.{rules}
 use Rattle.chain.proofs.prepare_chain.checked_chain.Goals as goal
 
 pub directed_check-checked-requires : goal.directed_check-checked-requires

@@ -1,7 +1,6 @@
 use Rattle.geometry.specs.Direction.{unit_or}
 use Rattle.chain.specs.Check.{has_direction}
 use Rattle.chain.specs.Prepared.{unit_axis}
-use borrow.Author.Rules.{rules}
 use Rattle.chain.proofs.prepare_chain.heading.Goals as goal
 
 pub returns-in_default : goal.returns-in_default

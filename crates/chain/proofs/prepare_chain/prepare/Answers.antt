@@ -1,4 +1,3 @@
-use borrow.Author.Rules.{rules}
 use Rattle.chain.proofs.prepare_chain.prepare.Goals as goal
 
 pub prepare_along-requires : goal.prepare_along-requires

@@ -1,4 +1,3 @@
-use borrow.Author.Rules.{rules}
 use Rattle.chain.specs.Prepared.{spin_of}
 use Rattle.chain.proofs.prepare_chain.spin_of.Goals as goal
 

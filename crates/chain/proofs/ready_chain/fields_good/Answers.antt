@@ -1,6 +1,5 @@
 use mathlib.Core.Path.{sym}
 use Rattle.chain.proofs.ReadyLaws.{passed_demand}
-use borrow.Author.Rules.{rules}
 use Rattle.lists.proofs.Tests.{is_after_all, isn't}
 use Rattle.chain.specs.ChainBytes.{rotary_fields}
 use Rattle.std.proofs.lemmas.Bool.{not_from_true}

@@ -1,5 +1,4 @@
 use native.Mathlib.Omega.{arith}
-use borrow.Author.Rules.{rules}
 use Rattle.chain.specs.ReadySteps.{first_good}
 use Rattle.chain.proofs.ready_chain.first_good.Goals as goal
 

@@ -1,4 +1,3 @@
-use borrow.Author.Rules.{rules}
 use Rattle.chain.specs.ReadySteps.{mount_at}
 use Rattle.chain.proofs.ready_chain.mount_at.Goals as goal
 

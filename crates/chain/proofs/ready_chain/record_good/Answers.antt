@@ -1,5 +1,4 @@
 use native.Mathlib.Omega.{arith}
-use borrow.Author.Rules.{rules}
 use Rattle.lists.proofs.Tests.{is_after_all, isn't}
 use Rattle.chain.specs.ReadySteps.{record_good, rotary_good}
 use Rattle.chain.specs.ChainBytes.{rotary_at}

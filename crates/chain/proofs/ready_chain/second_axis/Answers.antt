@@ -1,5 +1,4 @@
 use native.Mathlib.Omega.{arith}
-use borrow.Author.Rules.{rules}
 use borrow.Author.Tests.{eq-eqb, ne_eqb}
 use Rattle.chain.proofs.Bytes.{room_two}
 use Rattle.chain.specs.ReadySteps.{second_axis}

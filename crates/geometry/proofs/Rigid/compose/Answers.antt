@@ -1,4 +1,3 @@
-use borrow.Author.Rules.{rules}
 use Rattle.geometry.specs.Rigid.{compose}
 use Rattle.geometry.proofs.Rigid.compose.Goals as goal
 

@@ -1,4 +1,3 @@
-use borrow.Author.Rules.{rules}
 use mathlib.Core.Path.{refl}
 use Rattle.geometry.specs.Rigid.{identity}
 use Rattle.geometry.proofs.Rigid.identity.Goals as goal

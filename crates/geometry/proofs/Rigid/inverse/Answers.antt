@@ -1,4 +1,3 @@
-use borrow.Author.Rules.{rules}
 use mathlib.Core.Path.{refl}
 use Rattle.geometry.specs.Rigid.{inverse}
 use Rattle.geometry.proofs.Rigid.inverse.Goals as goal

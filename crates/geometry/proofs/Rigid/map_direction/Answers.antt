@@ -1,4 +1,3 @@
-use borrow.Author.Rules.{rules}
 use Rattle.geometry.specs.Rigid.{map_direction}
 use Rattle.geometry.proofs.Rigid.map_direction.Goals as goal
 

@@ -1,4 +1,3 @@
-use borrow.Author.Rules.{rules}
 use Rattle.geometry.specs.Rigid.{map_point}
 use Rattle.geometry.proofs.Rigid.map_point.Goals as goal
 

@@ -1,4 +1,3 @@
-use borrow.Author.Rules.{rules}
 use Rattle.geometry.specs.Turn.{turn_of}
 use Rattle.geometry.proofs.Turn.of.Goals as goal
 

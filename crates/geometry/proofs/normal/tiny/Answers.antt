@@ -1,7 +1,6 @@
 use mathlib.Core.Path.{◌≡◌, ap}
-use mathlib.Core.Bool.{Bool, true, false, not}
+use mathlib.Core.Bool.{true, false, not}
 use lib.Ieee.{Float, le}
-use borrow.Author.Rules.{rules}
 use Rattle.lists.proofs.Tests.{isn't, is_after_all}
 use Rattle.geometry.specs.Direction.{tiny, smallest}
 use Rattle.std.proofs.lemmas.Bool.{not_from_true}

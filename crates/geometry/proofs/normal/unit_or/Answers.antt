@@ -1,4 +1,3 @@
-use borrow.Author.Rules.{rules}
 use Rattle.geometry.specs.Direction.{unit_or}
 use Rattle.geometry.proofs.normal.unit_or.Goals as goal
 

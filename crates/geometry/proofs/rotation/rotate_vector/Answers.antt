@@ -1,4 +1,3 @@
-use borrow.Author.Rules.{rules}
 use Rattle.geometry.specs.Turn.{rotate_vector}
 use Rattle.geometry.proofs.rotation.rotate_vector.Goals as goal
 

@@ -1,4 +1,3 @@
-use borrow.Author.Rules.{rules}
 use Rattle.geometry.specs.Slerp.{angle_between_deg}
 use Rattle.geometry.proofs.slerp.angle_between_deg.Goals as goal
 

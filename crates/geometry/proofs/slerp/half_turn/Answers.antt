@@ -1,4 +1,3 @@
-use borrow.Author.Rules.{rules}
 use Rattle.geometry.specs.Slerp.{half_turn}
 use Rattle.geometry.proofs.slerp.half_turn.Goals as goal
 

@@ -1,4 +1,3 @@
-use borrow.Author.Rules.{rules}
 use Rattle.geometry.specs.Slerp.{side_helper}
 use Rattle.geometry.proofs.slerp.side_helper.Goals as goal
 

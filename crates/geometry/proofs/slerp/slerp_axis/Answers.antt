@@ -1,4 +1,3 @@
-use borrow.Author.Rules.{rules}
 use Rattle.geometry.specs.Slerp.{slerp_axis}
 use Rattle.geometry.proofs.slerp.slerp_axis.Goals as goal
 

@@ -1,4 +1,3 @@
-use borrow.Author.Rules.{rules}
 use Rattle.geometry.specs.Slerp.{slerp_cosine}
 use Rattle.geometry.proofs.slerp.slerp_cosine.Goals as goal
 

@@ -1,4 +1,3 @@
-use borrow.Author.Rules.{rules}
 use Rattle.geometry.specs.Slerp.{weighted}
 use Rattle.geometry.proofs.slerp.weighted.Goals as goal
 

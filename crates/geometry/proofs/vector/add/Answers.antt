@@ -1,4 +1,3 @@
-use borrow.Author.Rules.{rules}
 use mathlib.Core.Path.{refl}
 use Rattle.geometry.specs.Vector.{add}
 use Rattle.geometry.proofs.vector.add.Goals as goal

@@ -1,4 +1,3 @@
-use borrow.Author.Rules.{rules}
 use mathlib.Core.Path.{refl}
 use Rattle.geometry.specs.Vector.{cross}
 use Rattle.geometry.proofs.vector.cross.Goals as goal

@@ -1,4 +1,3 @@
-use borrow.Author.Rules.{rules}
 use mathlib.Core.Path.{refl}
 use Rattle.geometry.specs.Vector.{dot}
 use Rattle.geometry.proofs.vector.dot.Goals as goal

@@ -1,4 +1,3 @@
-use borrow.Author.Rules.{rules}
 use Rattle.geometry.specs.Vector.{gap_vec}
 use Rattle.geometry.proofs.vector.gap_vec.Goals as goal
 

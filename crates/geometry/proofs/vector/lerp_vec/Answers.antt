@@ -1,4 +1,3 @@
-use borrow.Author.Rules.{rules}
 use mathlib.Core.Path.{refl}
 use Rattle.geometry.specs.Vector.{lerp_vec}
 use Rattle.geometry.proofs.vector.lerp_vec.Goals as goal

@@ -1,4 +1,3 @@
-use borrow.Author.Rules.{rules}
 use Rattle.geometry.specs.Vector.{norm}
 use Rattle.geometry.proofs.vector.norm.Goals as goal
 

@@ -1,4 +1,3 @@
-use borrow.Author.Rules.{rules}
 use mathlib.Core.Path.{refl}
 use Rattle.geometry.specs.Vector.{scale}
 use Rattle.geometry.proofs.vector.scale.Goals as goal

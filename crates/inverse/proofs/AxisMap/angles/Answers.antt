@@ -1,4 +1,3 @@
-use borrow.Author.Rules.{rules}
 use Rattle.inverse.specs.AxisMap.{angles}
 use Rattle.inverse.proofs.AxisMap.angles.Goals as goal
 

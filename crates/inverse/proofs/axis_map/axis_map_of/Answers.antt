@@ -1,4 +1,3 @@
-use borrow.Author.Rules.{rules}
 use Rattle.inverse.specs.AxisMap.{axis_map_of}
 use Rattle.inverse.proofs.axis_map.axis_map_of.Goals as goal
 

@@ -1,4 +1,3 @@
-use borrow.Author.Rules.{rules}
 use Rattle.inverse.specs.Choose.{best_of}
 use Rattle.inverse.proofs.choosing.best_of.Goals as goal
 

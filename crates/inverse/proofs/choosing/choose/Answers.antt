@@ -1,4 +1,3 @@
-use borrow.Author.Rules.{rules}
 use Rattle.inverse.specs.Choose.{choose}
 use Rattle.inverse.proofs.choosing.choose.Goals as goal
 

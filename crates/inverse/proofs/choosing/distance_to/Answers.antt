@@ -1,4 +1,3 @@
-use borrow.Author.Rules.{rules}
 use Rattle.inverse.specs.Choose.{distance_to}
 use Rattle.inverse.proofs.choosing.distance_to.Goals as goal
 

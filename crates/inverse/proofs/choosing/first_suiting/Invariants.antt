@@ -1,14 +1,8 @@
 use Prim.Native.Nat.{◌-◌}
-use mathlib.Core.Path.{◌≡◌, ◌∙◌}
-use native.Mathlib.Omega.{arith}
-use borrow.Author.Rules.{rules}
+use mathlib.Core.Path.{◌≡◌}
 use lib.ListN.{length}
-use Rattle.lists.proofs.Fold.{length_of_map}
-use Rattle.lists.proofs.Search.{Searching, searching_start, searching_step}
-use Rattle.lists.proofs.Tests.{is}
-use Rattle.inverse.specs.Solutions.{nowhere}
-use Rattle.inverse.specs.Choose.{suits, first_suiting}
-use Rattle.inverse.proofs.Picking.{any_default, picked_there, picked_else}
+use Rattle.lists.proofs.Search.{Searching}
+use Rattle.inverse.specs.Choose.{suits}
 use Rattle.inverse.proofs.choosing.first_suiting.Given as goal
 
 abbrev pub invariant-loop-k : goal.invariant-loop-k

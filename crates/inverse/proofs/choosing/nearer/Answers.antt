@@ -1,4 +1,3 @@
-use borrow.Author.Rules.{rules}
 use Rattle.inverse.specs.Choose.{nearer}
 use Rattle.inverse.proofs.choosing.nearer.Goals as goal
 

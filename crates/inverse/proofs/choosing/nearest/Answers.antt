@@ -1,11 +1,10 @@
-use Prim.Native.Nat.{◌-◌}
 use mathlib.Core.Path.{◌≡◌, ap, ◌∙◌}
 use native.Mathlib.Omega.{arith}
 use borrow.Author.Rules.{rules}
-use lib.ListN.{length, get_or}
-use Rattle.lists.proofs.Fold.{Folding, folding_start, folding_step, folding_end, length_of_map}
+use lib.ListN.{length}
+use Rattle.lists.proofs.Fold.{folding_start, folding_step, folding_end, length_of_map}
 use Rattle.inverse.specs.Solutions.{nowhere}
-use Rattle.inverse.specs.Choose.{best_of, nearer, nearest}
+use Rattle.inverse.specs.Choose.{best_of, nearest}
 use Rattle.inverse.proofs.Picking.{any_default}
 use Rattle.inverse.proofs.choosing.nearest.Goals as goal
 

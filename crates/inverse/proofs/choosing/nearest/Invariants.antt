@@ -1,12 +1,9 @@
 use Prim.Native.Nat.{◌-◌}
-use mathlib.Core.Path.{◌≡◌, ap, ◌∙◌}
-use native.Mathlib.Omega.{arith}
-use borrow.Author.Rules.{rules}
+use mathlib.Core.Path.{◌≡◌}
 use lib.ListN.{length, get_or}
-use Rattle.lists.proofs.Fold.{Folding, folding_start, folding_step, folding_end, length_of_map}
+use Rattle.lists.proofs.Fold.{Folding}
 use Rattle.inverse.specs.Solutions.{nowhere}
-use Rattle.inverse.specs.Choose.{best_of, nearer, nearest}
-use Rattle.inverse.proofs.Picking.{any_default}
+use Rattle.inverse.specs.Choose.{best_of, nearer}
 use Rattle.inverse.proofs.choosing.nearest.Given as goal
 
 abbrev pub invariant-loop-k : goal.invariant-loop-k

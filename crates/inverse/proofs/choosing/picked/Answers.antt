@@ -1,4 +1,3 @@
-use borrow.Author.Rules.{rules}
 use Rattle.inverse.proofs.choosing.picked.Goals as goal
 
 pub returns-in-Nearest : goal.returns-in-Nearest

@@ -1,13 +1,8 @@
 use Prim.Native.Nat.{◌-◌, ◌≤◌}
-use mathlib.Core.Path.{◌≡◌, ◌∙◌}
-use native.Mathlib.Omega.{arith}
-use borrow.Author.Rules.{rules}
-use lib.ListN.{length, take}
-use lib.Seq.{length-take-le}
-use Rattle.lists.proofs.Fold.{Folding, folding_start, folding_step, folding_end, length_of_map}
+use mathlib.Core.Path.{◌≡◌}
+use Rattle.lists.proofs.Fold.{Folding}
 use Rattle.inverse.specs.Solutions.{no_solutions}
 use Rattle.inverse.specs.Inverse.{taken_in}
-use Rattle.inverse.proofs.Taking.{taken_all}
 use Rattle.inverse.proofs.inverse_map.all_solutions.Given as goal
 
 abbrev pub invariant-loop-k : goal.invariant-loop-k

@@ -1,5 +1,4 @@
 use native.Mathlib.Omega.{arith}
-use borrow.Author.Rules.{rules}
 use Rattle.inverse.proofs.inverse_map.answered.Goals as goal
 
 pub returns-in-Refused : goal.returns-in-Refused

@@ -1,4 +1,3 @@
-use borrow.Author.Rules.{rules}
 use Rattle.inverse.specs.Inverse.{hint_finite}
 use Rattle.inverse.proofs.inverse_map.hint_finite.Goals as goal
 

@@ -1,4 +1,3 @@
-use borrow.Author.Rules.{rules}
 use Rattle.inverse.specs.Inverse.{hint_within}
 use Rattle.inverse.proofs.inverse_map.hint_within.Goals as goal
 

@@ -1,5 +1,4 @@
 use native.Mathlib.Omega.{arith}
-use borrow.Author.Rules.{rules}
 use Rattle.inverse.specs.Inverse.{inverse}
 use Rattle.inverse.proofs.inverse_map.inverse.Goals as goal
 

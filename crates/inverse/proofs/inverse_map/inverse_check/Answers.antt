@@ -1,4 +1,3 @@
-use borrow.Author.Rules.{rules}
 use Rattle.inverse.specs.Inverse.{inverse_check}
 use Rattle.inverse.proofs.inverse_map.inverse_check.Goals as goal
 

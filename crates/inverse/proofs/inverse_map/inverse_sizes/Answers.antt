@@ -1,4 +1,3 @@
-use borrow.Author.Rules.{rules}
 use Rattle.inverse.specs.Inverse.{inverse_sizes}
 use Rattle.inverse.proofs.inverse_map.inverse_sizes.Goals as goal
 

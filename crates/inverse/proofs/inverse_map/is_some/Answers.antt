@@ -1,4 +1,3 @@
-use borrow.Author.Rules.{rules}
 use Rattle.inverse.proofs.inverse_map.is_some.Goals as goal
 
 pub returns-in_default : goal.returns-in_default

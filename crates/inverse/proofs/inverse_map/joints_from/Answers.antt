@@ -1,4 +1,3 @@
-use borrow.Author.Rules.{rules}
 use Rattle.inverse.specs.Inverse.{joints_from}
 use Rattle.inverse.proofs.inverse_map.joints_from.Goals as goal
 

@@ -1,4 +1,3 @@
-use borrow.Author.Rules.{rules}
 use mathlib.Core.Path.{sym}
 use Rattle.geometry.specs.Vector.{norm}
 use Rattle.inverse.specs.Inverse.{misses}

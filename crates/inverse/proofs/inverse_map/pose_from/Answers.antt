@@ -1,4 +1,3 @@
-use borrow.Author.Rules.{rules}
 use Rattle.inverse.specs.Inverse.{pose_from}
 use Rattle.inverse.proofs.inverse_map.pose_from.Goals as goal
 

@@ -1,4 +1,3 @@
-use Prim.Native.Nat.{◌-◌}
 use mathlib.Core.Path.{◌≡◌, ap}
 use mathlib.Core.Bool.{not}
 use native.Mathlib.Omega.{arith}
@@ -7,7 +6,7 @@ use lib.ListN.{length}
 use Rattle.geometry.specs.Direction.{all_finite}
 use Rattle.chain.specs.declared.Joints.{Joints}
 use Rattle.lists.proofs.Fold.{length_of_map}
-use Rattle.lists.proofs.Search.{Searching, searching_start, searching_step, searching_all, searching_not_all}
+use Rattle.lists.proofs.Search.{searching_start, searching_step, searching_all, searching_not_all}
 use Rattle.lists.proofs.Tests.{isn't, is_after_all}
 use Rattle.inverse.specs.Inverse.{positions_finite}
 use Rattle.std.proofs.lemmas.Bool.{not_from_true}

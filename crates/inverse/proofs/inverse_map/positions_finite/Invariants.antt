@@ -1,15 +1,10 @@
 use Prim.Native.Nat.{◌-◌}
-use mathlib.Core.Path.{◌≡◌, ap}
+use mathlib.Core.Path.{◌≡◌}
 use mathlib.Core.Bool.{not}
-use native.Mathlib.Omega.{arith}
-use borrow.Author.Rules.{rules}
 use lib.ListN.{length}
 use Rattle.geometry.specs.Direction.{all_finite}
 use Rattle.chain.specs.declared.Joints.{Joints}
-use Rattle.lists.proofs.Fold.{length_of_map}
-use Rattle.lists.proofs.Search.{Searching, searching_start, searching_step, searching_all, searching_not_all}
-use Rattle.lists.proofs.Tests.{isn't, is_after_all}
-use Rattle.inverse.specs.Inverse.{positions_finite}
+use Rattle.lists.proofs.Search.{Searching}
 use Rattle.inverse.proofs.inverse_map.positions_finite.Given as goal
 
 abbrev pub invariant-loop-k : goal.invariant-loop-k

@@ -1,4 +1,3 @@
-use borrow.Author.Rules.{rules}
 use Rattle.inverse.proofs.inverse_map.refused.Goals as goal
 
 pub returns : goal.returns

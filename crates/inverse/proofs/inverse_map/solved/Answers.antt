@@ -1,4 +1,3 @@
-use borrow.Author.Rules.{rules}
 use Rattle.inverse.proofs.Insertion.{listed_is}
 use Rattle.inverse.specs.Inverse.{solved, raw_angles, wrapped}
 use Rattle.inverse.proofs.inverse_map.solved.Goals as goal

@@ -1,4 +1,3 @@
-use borrow.Author.Rules.{rules}
 use Rattle.inverse.specs.Inverse.{some_raw}
 use Rattle.inverse.proofs.inverse_map.some_raw.Goals as goal
 

@@ -1,5 +1,4 @@
 use native.Mathlib.Omega.{arith}
-use borrow.Author.Rules.{rules}
 use Rattle.inverse.specs.Inverse.{taken_in, pose_at}
 use Rattle.inverse.proofs.FromTurns.{pose_from_lem, joints_from_lem}
 use Rattle.inverse.proofs.inverse_map.take_in.Goals as goal

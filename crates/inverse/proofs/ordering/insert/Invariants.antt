@@ -1,8 +1,5 @@
 use Prim.Native.Nat.{◌-◌}
-use native.Mathlib.Omega.{arith}
-use borrow.Author.Rules.{rules}
-use Rattle.lists.proofs.Fold.{length_of_map}
-use Rattle.inverse.proofs.Insertion.{Going, going_start, going_step, going_end}
+use Rattle.inverse.proofs.Insertion.{Going}
 use Rattle.inverse.proofs.ordering.insert.Given as goal
 
 abbrev pub invariant-loop-k : goal.invariant-loop-k

@@ -1,4 +1,3 @@
-use borrow.Author.Rules.{rules}
 use Rattle.inverse.specs.Solutions.{precedes}
 use Rattle.inverse.proofs.ordering.precedes.Goals as goal
 

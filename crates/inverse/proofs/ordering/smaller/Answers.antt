@@ -1,4 +1,3 @@
-use borrow.Author.Rules.{rules}
 use Rattle.inverse.specs.Solutions.{smaller}
 use Rattle.inverse.proofs.ordering.smaller.Goals as goal
 

@@ -1,4 +1,3 @@
-use borrow.Author.Rules.{rules}
 use Rattle.inverse.specs.Solutions.{step_in}
 use Rattle.inverse.proofs.ordering.step_in.Goals as goal
 

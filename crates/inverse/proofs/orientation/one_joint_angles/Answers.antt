@@ -1,4 +1,3 @@
-use borrow.Author.Rules.{rules}
 use Rattle.inverse.specs.Orientation.{one_joint_angles}
 use Rattle.inverse.proofs.orientation.one_joint_angles.Goals as goal
 

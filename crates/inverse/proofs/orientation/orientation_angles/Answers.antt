@@ -1,4 +1,3 @@
-use borrow.Author.Rules.{rules}
 use Rattle.inverse.specs.Orientation.{orientation_angles}
 use Rattle.inverse.proofs.orientation.orientation_angles.Goals as goal
 

@@ -1,4 +1,3 @@
-use borrow.Author.Rules.{rules}
 use Rattle.inverse.specs.Orientation.{parallel_angles}
 use Rattle.inverse.proofs.orientation.parallel_angles.Goals as goal
 

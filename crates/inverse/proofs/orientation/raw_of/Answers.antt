@@ -1,4 +1,3 @@
-use borrow.Author.Rules.{rules}
 use Rattle.inverse.proofs.orientation.raw_of.Goals as goal
 
 pub returns-in-Angles : goal.returns-in-Angles

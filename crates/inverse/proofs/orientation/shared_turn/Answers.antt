@@ -1,4 +1,3 @@
-use borrow.Author.Rules.{rules}
 use Rattle.inverse.specs.Orientation.{shared_turn}
 use Rattle.inverse.proofs.orientation.shared_turn.Goals as goal
 

@@ -1,4 +1,3 @@
-use borrow.Author.Rules.{rules}
 use Rattle.inverse.specs.Orientation.{sigma_of}
 use Rattle.inverse.proofs.orientation.sigma_of.Goals as goal
 

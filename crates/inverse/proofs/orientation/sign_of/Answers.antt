@@ -1,4 +1,3 @@
-use borrow.Author.Rules.{rules}
 use Rattle.inverse.proofs.orientation.sign_of.Goals as goal
 
 pub returns-in-Table : goal.returns-in-Table

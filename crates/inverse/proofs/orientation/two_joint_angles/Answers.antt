@@ -1,4 +1,3 @@
-use borrow.Author.Rules.{rules}
 use Rattle.inverse.specs.Orientation.{two_joint_angles}
 use Rattle.inverse.proofs.orientation.two_joint_angles.Goals as goal
 

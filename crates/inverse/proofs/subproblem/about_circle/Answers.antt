@@ -1,4 +1,3 @@
-use borrow.Author.Rules.{rules}
 use Rattle.inverse.specs.Subproblem.{about_circle}
 use Rattle.inverse.proofs.subproblem.about_circle.Goals as goal
 

@@ -1,4 +1,3 @@
-use borrow.Author.Rules.{rules}
 use Rattle.inverse.proofs.subproblem.apply_angle.Goals as goal
 
 pub returns-in-Free : goal.returns-in-Free

@@ -1,4 +1,3 @@
-use borrow.Author.Rules.{rules}
 use Rattle.inverse.specs.Subproblem.{beside}
 use Rattle.inverse.proofs.subproblem.beside.Goals as goal
 

@@ -1,4 +1,3 @@
-use borrow.Author.Rules.{rules}
 use Rattle.inverse.specs.Subproblem.{between_parts}
 use Rattle.inverse.proofs.subproblem.between_parts.Goals as goal
 

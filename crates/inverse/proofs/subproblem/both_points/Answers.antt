@@ -1,4 +1,3 @@
-use borrow.Author.Rules.{rules}
 use Rattle.inverse.specs.Subproblem.{both_points}
 use Rattle.inverse.proofs.subproblem.both_points.Goals as goal
 

@@ -1,4 +1,3 @@
-use borrow.Author.Rules.{rules}
 use Rattle.inverse.specs.Subproblem.{in_frame}
 use Rattle.inverse.proofs.subproblem.in_frame.Goals as goal
 

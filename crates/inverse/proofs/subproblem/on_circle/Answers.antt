@@ -1,4 +1,3 @@
-use borrow.Author.Rules.{rules}
 use Rattle.inverse.specs.Subproblem.{on_circle}
 use Rattle.inverse.proofs.subproblem.on_circle.Goals as goal
 

@@ -1,4 +1,3 @@
-use borrow.Author.Rules.{rules}
 use Rattle.inverse.specs.Subproblem.{sine_beside}
 use Rattle.inverse.proofs.subproblem.sine_of.Goals as goal
 

@@ -1,4 +1,3 @@
-use borrow.Author.Rules.{rules}
 use Rattle.inverse.specs.Subproblem.{solved_pair}
 use Rattle.inverse.proofs.subproblem.solved_pair.Goals as goal
 

@@ -1,4 +1,3 @@
-use borrow.Author.Rules.{rules}
 use Rattle.inverse.specs.Subproblem.{sp1}
 use Rattle.inverse.proofs.subproblem.sp1.Goals as goal
 

@@ -1,4 +1,3 @@
-use borrow.Author.Rules.{rules}
 use Rattle.inverse.specs.Subproblem.{sp2}
 use Rattle.inverse.proofs.subproblem.sp2.Goals as goal
 

@@ -1,4 +1,3 @@
-use borrow.Author.Rules.{rules}
 use Rattle.inverse.specs.Subproblem.{square_part}
 use Rattle.inverse.proofs.subproblem.square_part.Goals as goal
 

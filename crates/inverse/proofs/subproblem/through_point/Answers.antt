@@ -1,4 +1,3 @@
-use borrow.Author.Rules.{rules}
 use Rattle.inverse.specs.Subproblem.{through_point}
 use Rattle.inverse.proofs.subproblem.through_point.Goals as goal
 

@@ -1,4 +1,3 @@
-use borrow.Author.Rules.{rules}
 use Rattle.inverse.specs.Subproblem.{turned_by}
 use Rattle.inverse.proofs.subproblem.turned_by.Goals as goal
 

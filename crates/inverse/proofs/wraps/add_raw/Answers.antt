@@ -1,5 +1,4 @@
 use native.Mathlib.Omega.{arith}
-use borrow.Author.Rules.{rules}
 use Rattle.inverse.proofs.wraps.add_raw.Goals as goal
 
 pub returns-in_default : goal.returns-in_default

@@ -1,10 +1,6 @@
 use Prim.Native.Nat.{◌-◌, ◌+◌, ◌≤◌}
-use mathlib.Core.Path.{◌≡◌}
-use native.Mathlib.Omega.{arith}
-use borrow.Author.Rules.{rules}
-use lib.ListN.{length}
-use Rattle.lists.proofs.Fold.{Folding, folding_start, folding_step, folding_end}
-use Rattle.inverse.specs.Wraps.{add_pair, add_row, paired}
+use Rattle.lists.proofs.Fold.{Folding}
+use Rattle.inverse.specs.Wraps.{add_pair, paired}
 use Rattle.inverse.proofs.wraps.add_row.Given as goal
 
 abbrev pub invariant-loop-k : goal.invariant-loop-k

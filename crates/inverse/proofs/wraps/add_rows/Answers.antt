@@ -1,10 +1,9 @@
-use Prim.Native.Nat.{◌-◌, ◌+◌, ◌*◌, ◌≤◌}
 use mathlib.Core.Path.{◌≡◌}
 use native.Mathlib.Omega.{arith}
 use borrow.Author.Rules.{rules}
 use lib.ListN.{length}
-use Rattle.lists.proofs.Fold.{Folding, folding_start, folding_step, folding_end}
-use Rattle.inverse.specs.Wraps.{add_row, add_rows, turned, paired}
+use Rattle.lists.proofs.Fold.{folding_start, folding_step, folding_end}
+use Rattle.inverse.specs.Wraps.{add_rows}
 use Rattle.inverse.proofs.wraps.add_rows.Goals as goal
 
 pub loop-k-init : goal.loop-k-init

@@ -1,12 +1,11 @@
-use Prim.Native.Nat.{◌-◌}
 use mathlib.Core.Path.{◌≡◌}
 use native.Mathlib.Omega.{arith}
 use borrow.Author.Rules.{rules}
 use lib.ListN.{length}
 use Rattle.lists.proofs.Fold.{length_of_map}
-use Rattle.lists.proofs.Search.{Searching, searching_start, searching_step, searching_any, searching_not_any}
+use Rattle.lists.proofs.Search.{searching_start, searching_step, searching_any, searching_not_any}
 use Rattle.lists.proofs.Tests.{is}
-use Rattle.inverse.specs.Wraps.{has, same_angles}
+use Rattle.inverse.specs.Wraps.{has}
 use Rattle.inverse.proofs.wraps.has.Goals as goal
 
 pub loop-k-init : goal.loop-k-init

@@ -1,4 +1,3 @@
-use borrow.Author.Rules.{rules}
 use Rattle.inverse.specs.Wraps.{same_angles}
 use Rattle.inverse.proofs.wraps.same_angles.Goals as goal
 

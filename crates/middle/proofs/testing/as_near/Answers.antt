@@ -1,4 +1,3 @@
-use borrow.Author.Rules.{rules}
 use Rattle.middle.specs.Testing.{as_near}
 use Rattle.middle.proofs.testing.as_near.Goals as goal
 

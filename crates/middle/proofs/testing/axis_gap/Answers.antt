@@ -1,4 +1,3 @@
-use borrow.Author.Rules.{rules}
 use Rattle.middle.specs.Testing.{axis_gap}
 use Rattle.middle.proofs.testing.axis_gap.Goals as goal
 

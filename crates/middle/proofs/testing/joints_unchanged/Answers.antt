@@ -1,4 +1,3 @@
-use borrow.Author.Rules.{rules}
 use Rattle.middle.specs.Testing.{joints_unchanged}
 use Rattle.middle.proofs.testing.joints_unchanged.Goals as goal
 

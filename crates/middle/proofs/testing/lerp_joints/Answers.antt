@@ -1,4 +1,3 @@
-use borrow.Author.Rules.{rules}
 use Rattle.middle.specs.Testing.{lerp_joints}
 use Rattle.middle.proofs.testing.lerp_joints.Goals as goal
 

@@ -1,4 +1,3 @@
-use borrow.Author.Rules.{rules}
 use Rattle.middle.specs.Testing.{middle_within}
 use Rattle.middle.proofs.testing.middle_within.Goals as goal
 

@@ -1,4 +1,3 @@
-use borrow.Author.Rules.{rules}
 use Rattle.middle.specs.Testing.{midpoint}
 use Rattle.middle.proofs.testing.midpoint.Goals as goal
 

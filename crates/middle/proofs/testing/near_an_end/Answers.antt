@@ -1,4 +1,3 @@
-use borrow.Author.Rules.{rules}
 use Rattle.middle.specs.Testing.{near_an_end}
 use Rattle.middle.proofs.testing.near_an_end.Goals as goal
 

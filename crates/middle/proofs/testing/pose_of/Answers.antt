@@ -1,4 +1,3 @@
-use borrow.Author.Rules.{rules}
 use Rattle.middle.specs.Testing.{pose_of}
 use Rattle.middle.proofs.testing.pose_of.Goals as goal
 

@@ -1,4 +1,3 @@
-use borrow.Author.Rules.{rules}
 use Rattle.middle.specs.Testing.{segment_within}
 use Rattle.middle.proofs.testing.segment_within.Goals as goal
 

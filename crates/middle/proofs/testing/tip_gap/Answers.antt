@@ -1,4 +1,3 @@
-use borrow.Author.Rules.{rules}
 use Rattle.middle.specs.Testing.{tip_gap}
 use Rattle.middle.proofs.testing.tip_gap.Goals as goal
 

@@ -1,4 +1,3 @@
-use borrow.Author.Rules.{rules}
 use Rattle.middle.specs.Testing.{verdict_with}
 use Rattle.middle.proofs.testing.verdict_with.Goals as goal
 

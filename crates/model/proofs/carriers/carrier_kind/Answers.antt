@@ -1,4 +1,3 @@
-use borrow.Author.Rules.{rules}
 use Rattle.model.specs.Carrier.{carrier_kind}
 use borrow.Author.Tests.{eq-eqb, ne_eqb}
 use Rattle.model.proofs.carriers.carrier_kind.Goals as goal

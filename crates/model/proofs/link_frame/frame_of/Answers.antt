@@ -1,4 +1,3 @@
-use borrow.Author.Rules.{rules}
 use Rattle.model.proofs.link_frame.frame_of.Goals as goal
 
 pub returns-in-Base : goal.returns-in-Base

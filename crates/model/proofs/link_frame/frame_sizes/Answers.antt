@@ -1,4 +1,3 @@
-use borrow.Author.Rules.{rules}
 use Rattle.model.specs.Frame.{frame_sizes}
 use Rattle.model.proofs.link_frame.frame_sizes.Goals as goal
 

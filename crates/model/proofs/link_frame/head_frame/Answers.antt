@@ -1,4 +1,3 @@
-use borrow.Author.Rules.{rules}
 use Rattle.model.specs.Frame.{head_frame}
 use Rattle.model.proofs.link_frame.head_frame.Goals as goal
 

@@ -1,4 +1,3 @@
-use borrow.Author.Rules.{rules}
 use Rattle.model.specs.Frame.{head_map_direction}
 use Rattle.model.proofs.link_frame.head_map_direction.Goals as goal
 

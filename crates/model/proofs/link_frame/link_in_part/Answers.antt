@@ -1,4 +1,3 @@
-use borrow.Author.Rules.{rules}
 use Rattle.model.specs.Frame.{link_in_part}
 use Rattle.model.proofs.link_frame.link_in_part.Goals as goal
 

@@ -1,4 +1,3 @@
-use borrow.Author.Rules.{rules}
 use Rattle.model.specs.Frame.{link_world}
 use Rattle.model.proofs.link_frame.link_world.Goals as goal
 

@@ -1,4 +1,3 @@
-use borrow.Author.Rules.{rules}
 use Rattle.model.specs.Frame.{rotary_frame}
 use Rattle.model.proofs.link_frame.rotary_frame.Goals as goal
 

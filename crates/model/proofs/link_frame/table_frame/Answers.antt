@@ -1,4 +1,3 @@
-use borrow.Author.Rules.{rules}
 use Rattle.model.specs.Frame.{table_frame}
 use Rattle.model.proofs.link_frame.table_frame.Goals as goal
 

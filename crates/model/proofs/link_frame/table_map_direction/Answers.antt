@@ -1,4 +1,3 @@
-use borrow.Author.Rules.{rules}
 use Rattle.model.specs.Frame.{table_map_direction}
 use Rattle.model.proofs.link_frame.table_map_direction.Goals as goal
 

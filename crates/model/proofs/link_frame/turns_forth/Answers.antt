@@ -1,4 +1,3 @@
-use borrow.Author.Rules.{rules}
 use Rattle.model.specs.Frame.{turns_forth}
 use Rattle.model.proofs.link_frame.turns_forth.Goals as goal
 

@@ -1,4 +1,3 @@
-use borrow.Author.Rules.{rules}
 use Rattle.model.specs.Solid.{cylinder_good}
 use Rattle.lists.proofs.Tests.{is_after_all, isn't}
 use Rattle.std.proofs.lemmas.Bool.{not_from_true}

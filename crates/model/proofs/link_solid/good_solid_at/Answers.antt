@@ -1,4 +1,3 @@
-use borrow.Author.Rules.{rules}
 use Rattle.model.specs.Solid.{good_solid_at}
 use borrow.Author.Tests.{le-leb, lt-leb}
 use Rattle.model.proofs.link_solid.good_solid_at.Goals as goal

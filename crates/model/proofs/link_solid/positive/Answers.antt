@@ -1,4 +1,3 @@
-use borrow.Author.Rules.{rules}
 use Rattle.model.specs.Solid.{positive}
 use Rattle.model.proofs.link_solid.positive.Goals as goal
 

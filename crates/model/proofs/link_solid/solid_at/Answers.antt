@@ -1,4 +1,3 @@
-use borrow.Author.Rules.{rules}
 use Rattle.model.specs.Solid.{solid_at}
 use borrow.Author.Tests.{eq-eqb, ne_eqb}
 use Rattle.model.proofs.link_solid.solid_at.Goals as goal

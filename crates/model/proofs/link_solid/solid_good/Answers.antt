@@ -1,4 +1,3 @@
-use borrow.Author.Rules.{rules}
 use Rattle.model.proofs.link_solid.solid_good.Goals as goal
 
 pub returns-in-Box : goal.returns-in-Box

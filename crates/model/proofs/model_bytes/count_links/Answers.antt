@@ -1,8 +1,5 @@
-use Prim.Native.Nat.{◌+◌, ◌-◌, ◌≤◌}
 use native.Mathlib.Omega.{arith}
-use mathlib.Core.Path.{◌≡◌}
-use lib.ListN.{length}
-use Rattle.model.specs.Model.{links, links_of}
+use Rattle.model.specs.Model.{links_of}
 use Rattle.model.proofs.Links.{counted, all_counted}
 use Rattle.model.proofs.model_bytes.count_links.Goals as goal
 

@@ -1,4 +1,3 @@
-use borrow.Author.Rules.{rules}
 use Rattle.model.specs.Model.{kind_good}
 use borrow.Author.Tests.{le-ltb, lt-ltb}
 use Rattle.model.proofs.model_bytes.kind_good.Goals as goal

@@ -1,4 +1,3 @@
-use borrow.Author.Rules.{rules}
 use Rattle.model.specs.Model.{last_number}
 use borrow.Author.Tests.{le-leb, lt-leb}
 use Rattle.model.proofs.model_bytes.last_number.Goals as goal

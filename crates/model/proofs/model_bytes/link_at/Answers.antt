@@ -1,6 +1,5 @@
 use native.Mathlib.Omega.{arith}
 use mathlib.Core.Path.{refl}
-use borrow.Author.Rules.{rules}
 use Rattle.model.specs.Model.{link_at}
 use Rattle.model.proofs.model_bytes.link_at.Goals as goal
 

@@ -1,4 +1,3 @@
-use borrow.Author.Rules.{rules}
 use Rattle.model.specs.Model.{link_fields}
 use Rattle.model.proofs.model_bytes.link_fields.Goals as goal
 

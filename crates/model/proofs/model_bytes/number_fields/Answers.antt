@@ -1,4 +1,3 @@
-use borrow.Author.Rules.{rules}
 use Rattle.model.specs.Model.{number_fields}
 use Rattle.model.proofs.model_bytes.number_fields.Goals as goal
 

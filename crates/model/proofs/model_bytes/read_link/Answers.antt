@@ -1,4 +1,3 @@
-use borrow.Author.Rules.{rules}
 use Rattle.model.specs.Model.{read_link}
 use Rattle.model.proofs.model_bytes.read_link.Goals as goal
 

@@ -1,4 +1,3 @@
-use borrow.Author.Rules.{rules}
 use mathlib.Core.Path.{refl}
 use Rattle.model.specs.Model.{whole_number}
 use Rattle.model.proofs.model_bytes.whole_number.Goals as goal

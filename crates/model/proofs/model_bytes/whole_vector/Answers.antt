@@ -1,4 +1,3 @@
-use borrow.Author.Rules.{rules}
 use Rattle.model.specs.Model.{whole_vector}
 use Rattle.model.proofs.model_bytes.whole_vector.Goals as goal
 

@@ -1,4 +1,3 @@
-use borrow.Author.Rules.{rules}
 use Rattle.model.specs.ModelCheck.{check_model}
 use Rattle.model.proofs.model_check.check_model.Goals as goal
 

@@ -1,12 +1,8 @@
-use Prim.Native.Nat.{◌-◌, ◌≤◌}
 use native.Mathlib.Omega.{arith}
-use mathlib.Core.Path.{◌≡◌, refl, sym, ◌∙◌}
-use lib.ListN.{length}
-use borrow.Author.Rules.{rules}
+use mathlib.Core.Path.{refl, sym, ◌∙◌}
 use Rattle.lists.proofs.Tests.{is}
-use Rattle.chain.specs.Check.{first_refusal}
-use Rattle.model.specs.Model.{links, links_of}
-use Rattle.model.specs.ModelCheck.{link_checks, each_link}
+use Rattle.model.specs.Model.{links_of}
+use Rattle.model.specs.ModelCheck.{each_link}
 use Rattle.model.proofs.Links.{checks_passed, checks_refused, checks_end}
 use Rattle.model.proofs.model_check.each_link.Goals as goal
 

@@ -1,13 +1,9 @@
 use Prim.Native.Nat.{◌-◌, ◌≤◌}
-use native.Mathlib.Omega.{arith}
-use mathlib.Core.Path.{◌≡◌, refl, sym, ◌∙◌}
+use mathlib.Core.Path.{◌≡◌}
 use lib.ListN.{length}
-use borrow.Author.Rules.{rules}
-use Rattle.lists.proofs.Tests.{is}
 use Rattle.chain.specs.Check.{first_refusal}
-use Rattle.model.specs.Model.{links, links_of}
-use Rattle.model.specs.ModelCheck.{link_checks, each_link}
-use Rattle.model.proofs.Links.{checks_passed, checks_refused, checks_end}
+use Rattle.model.specs.Model.{links}
+use Rattle.model.specs.ModelCheck.{link_checks}
 use Rattle.model.proofs.model_check.each_link.Given as goal
 
 abbrev pub invariant-loop-at : goal.invariant-loop-at

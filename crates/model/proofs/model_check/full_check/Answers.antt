@@ -1,4 +1,3 @@
-use borrow.Author.Rules.{rules}
 use Rattle.model.specs.ModelCheck.{full_check}
 use Rattle.model.proofs.model_check.full_check.Goals as goal
 

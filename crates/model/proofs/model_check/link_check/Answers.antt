@@ -1,4 +1,3 @@
-use borrow.Author.Rules.{rules}
 use Rattle.model.specs.ModelCheck.{link_check}
 use Rattle.model.proofs.model_check.link_check.Goals as goal
 

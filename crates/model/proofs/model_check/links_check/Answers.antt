@@ -1,4 +1,3 @@
-use borrow.Author.Rules.{rules}
 use Rattle.model.specs.ModelCheck.{links_check}
 use borrow.Author.Tests.{le-leb, lt-leb}
 use Rattle.model.proofs.model_check.links_check.Goals as goal

@@ -1,4 +1,3 @@
-use borrow.Author.Rules.{rules}
 use Rattle.model.specs.ModelCheck.{name_check}
 use Rattle.model.proofs.model_check.name_check.Goals as goal
 

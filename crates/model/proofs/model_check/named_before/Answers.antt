@@ -1,11 +1,7 @@
-use Prim.Native.Nat.{◌-◌}
 use native.Mathlib.Omega.{arith}
-use mathlib.Core.Path.{◌≡◌, refl, sym, ◌∙◌}
-use Rattle.lists.specs.Search.{any}
+use mathlib.Core.Path.{refl, sym, ◌∙◌}
 use Rattle.lists.proofs.Tests.{is}
-use Rattle.model.specs.declared.Link.{Link}
-use Rattle.model.specs.Model.{links}
-use Rattle.model.specs.ModelCheck.{same_name, named_before}
+use Rattle.model.specs.ModelCheck.{named_before}
 use Rattle.model.proofs.Links.{not_this, this_one, no_more}
 use Rattle.model.proofs.model_check.named_before.Goals as goal
 

@@ -1,12 +1,9 @@
 use Prim.Native.Nat.{◌-◌}
-use native.Mathlib.Omega.{arith}
-use mathlib.Core.Path.{◌≡◌, refl, sym, ◌∙◌}
+use mathlib.Core.Path.{◌≡◌}
 use Rattle.lists.specs.Search.{any}
-use Rattle.lists.proofs.Tests.{is}
 use Rattle.model.specs.declared.Link.{Link}
 use Rattle.model.specs.Model.{links}
-use Rattle.model.specs.ModelCheck.{same_name, named_before}
-use Rattle.model.proofs.Links.{not_this, this_one, no_more}
+use Rattle.model.specs.ModelCheck.{same_name}
 use Rattle.model.proofs.model_check.named_before.Given as goal
 
 abbrev pub invariant-loop-at : goal.invariant-loop-at

@@ -1,4 +1,3 @@
-use borrow.Author.Rules.{rules}
 use Rattle.model.specs.ModelCheck.{same_name}
 use Rattle.model.proofs.model_check.same_name.Goals as goal
 

@@ -1,8 +1,5 @@
-use Prim.Native.Nat.{◌-◌, ◌≤◌}
 use native.Mathlib.Omega.{arith}
-use mathlib.Core.Path.{◌≡◌, refl, sym, ◌∙◌}
-use lib.ListN.{length, drop}
-use Rattle.model.specs.Text.{same_bytes}
+use mathlib.Core.Path.{refl, sym, ◌∙◌}
 use Rattle.model.proofs.SameBytes.{lengths_differ, bytes_agree, bytes_differ, bytes_end}
 use Rattle.model.proofs.texts.same_bytes.Goals as goal
 

@@ -1,9 +1,7 @@
 use Prim.Native.Nat.{◌-◌, ◌≤◌}
-use native.Mathlib.Omega.{arith}
-use mathlib.Core.Path.{◌≡◌, refl, sym, ◌∙◌}
+use mathlib.Core.Path.{◌≡◌}
 use lib.ListN.{length, drop}
 use Rattle.model.specs.Text.{same_bytes}
-use Rattle.model.proofs.SameBytes.{lengths_differ, bytes_agree, bytes_differ, bytes_end}
 use Rattle.model.proofs.texts.same_bytes.Given as goal
 
 abbrev pub invariant-loop-i : goal.invariant-loop-i

@@ -1,4 +1,3 @@
-use borrow.Author.Rules.{rules}
 use Rattle.model.specs.Text.{text}
 use borrow.Author.Tests.{le-ltb, lt-ltb}
 use Rattle.model.proofs.texts.text.Goals as goal

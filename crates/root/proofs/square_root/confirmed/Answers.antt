@@ -1,4 +1,4 @@
-use Rattle.std.proofs.Common.{ℕ, ◌+◌, ◌*◌, ◌^◌, ◌<◌, ◌≤◌, arith, rules}
+use Rattle.std.proofs.Common.{ℕ, ◌+◌, ◌^◌, ◌<◌, ◌≤◌, arith}
 use Rattle.root.proofs.RootNearby.{small_halves, small_m, right_q, right_more, right_less}
 use Rattle.root.proofs.square_root.confirmed.Goals as goal
 

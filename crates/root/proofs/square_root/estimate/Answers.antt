@@ -1,4 +1,4 @@
-use Rattle.std.proofs.Common.{ℕ, ◌<◌, ◌≤◌, arith, rules}
+use Rattle.std.proofs.Common.{ℕ, ◌<◌, ◌≤◌, arith}
 use Rattle.float.proofs.NotNan.{low_bits}
 use Rattle.root.proofs.RootGuess.{start_low}
 use Rattle.root.proofs.square_root.estimate.Goals as goal

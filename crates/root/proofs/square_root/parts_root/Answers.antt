@@ -1,4 +1,4 @@
-use Rattle.std.proofs.Common.{◌≡◌, ℕ, ◌+◌, ◌*◌, ◌/◌, ◌^◌, ◌<◌, ◌≤◌, arith, rules}
+use Rattle.std.proofs.Common.{◌≡◌, ℕ, ◌+◌, ◌*◌, ◌/◌, ◌^◌, ◌<◌, ◌≤◌, arith}
 use Rattle.root.proofs.RootParts.{expo}
 use Rattle.root.proofs.RootNearby.{no_nan_out, near_answer, q_hi}
 use Rattle.root.proofs.square_root.parts_root.Goals as goal

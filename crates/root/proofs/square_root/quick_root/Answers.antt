@@ -1,5 +1,4 @@
 use Rattle.std.proofs.Common.{lit≤, rules}
-use lib.Ieee.{binary64, to_bits}
 use Rattle.float.proofs.NotNan.{same_number}
 use Rattle.root.proofs.RootQuick.{nan_root, near_root, no_nan_near, sum_room}
 use Rattle.root.proofs.square_root.quick_root.Goals as goal

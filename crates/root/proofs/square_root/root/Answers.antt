@@ -1,5 +1,5 @@
 use lib.Ieee.{nan_bits}
-use Rattle.root.proofs.RootCases.{Above, normal_of, case_normal}
+use Rattle.root.proofs.RootCases.{normal_of, case_normal}
 use Rattle.root.proofs.RootTests.{normal_above, nothing_smaller}
 use Rattle.std.proofs.Common.{rules}
 use Rattle.root.proofs.square_root.root.Goals as goal

@@ -1,5 +1,4 @@
 use Rattle.root.proofs.WholeRoot.{twice_fits, twice_pos, n_fits, q_le, t_fits, u_fits, answer_yes, answer_no}
-use Rattle.std.proofs.Common.{rules}
 use Rattle.root.proofs.square_root.root54.Goals as goal
 
 pub overflow_mul-n-2 : goal.overflow_mul-n-2

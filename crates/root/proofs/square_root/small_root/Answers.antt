@@ -1,5 +1,5 @@
 use Rattle.std.proofs.Common.{lit≤, rules}
-use Rattle.root.proofs.RootCases.{Above, case_zero, case_below, lifted_normal, case_lifted}
+use Rattle.root.proofs.RootCases.{case_zero, case_below, lifted_normal, case_lifted}
 use Rattle.root.proofs.RootTests.{small_above}
 use Rattle.root.proofs.square_root.small_root.Goals as goal
 

@@ -1,4 +1,4 @@
-use Rattle.std.proofs.Common.{ℕ, ◌+◌, ◌^◌, ◌<◌, ◌≤◌, arith, lit≤, rules}
+use Rattle.std.proofs.Common.{ℕ, ◌+◌, ◌^◌, ◌<◌, ◌≤◌, arith, lit≤}
 use Rattle.root.proofs.RootParts.{radicand_hi}
 use Rattle.root.proofs.RootNearby.{fallback}
 use Rattle.root.proofs.square_root.sure_digits.Goals as goal

@@ -1,5 +1,5 @@
 -- `trig::bearing::angle` meets its contract. Assumes nothing.
-use Rattle.std.proofs.Common.{ap, ◌∙◌, rules}
+use Rattle.std.proofs.Common.{ap, ◌∙◌}
 use lib.Ieee.{neg}
 use Rattle.trig.proofs.Choices.{pick, drop}
 use Rattle.trig.specs.Arctangent.{angle_float}

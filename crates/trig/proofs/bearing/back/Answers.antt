@@ -1,5 +1,5 @@
 -- `trig::bearing::back` meets its contract. Assumes nothing.
-use Rattle.std.proofs.Common.{◌∙◌, rules, le-ltb, lt-ltb}
+use Rattle.std.proofs.Common.{◌∙◌, le-ltb, lt-ltb}
 use Rattle.trig.proofs.Choices.{pick, drop}
 use Rattle.trig.specs.Arctangent.{back_float}
 use Rattle.trig.proofs.bearing.back.Goals as goal

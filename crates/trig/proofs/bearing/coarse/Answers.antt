@@ -1,5 +1,5 @@
 -- `trig::bearing::coarse` meets its contract. Assumes nothing.
-use Rattle.std.proofs.Common.{ap, ◌∙◌, rules}
+use Rattle.std.proofs.Common.{ap, ◌∙◌}
 use Rattle.trig.specs.Arctangent.{grid_float}
 use Rattle.trig.proofs.bearing.coarse.Goals as goal
 

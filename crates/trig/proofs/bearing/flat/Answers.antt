@@ -1,5 +1,5 @@
 -- `trig::bearing::flat` meets its contract. Assumes nothing.
-use Rattle.std.proofs.Common.{refl, ◌∙◌, rules}
+use Rattle.std.proofs.Common.{refl, ◌∙◌}
 use Rattle.trig.proofs.Choices.{pick, drop}
 use Rattle.trig.specs.Arctangent.{grid_float, grid_angle, passes}
 use Rattle.trig.proofs.Bisection.{flat_is}

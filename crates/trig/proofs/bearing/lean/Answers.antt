@@ -1,5 +1,5 @@
 -- `trig::bearing::lean` meets its contract. Assumes nothing.
-use Rattle.std.proofs.Common.{◌∙◌, rules, le-ltb, lt-ltb}
+use Rattle.std.proofs.Common.{◌∙◌, le-ltb, lt-ltb}
 use Rattle.trig.proofs.Choices.{pick, drop}
 use Rattle.trig.specs.Arctangent.{lean_float}
 use Rattle.trig.proofs.bearing.lean.Goals as goal

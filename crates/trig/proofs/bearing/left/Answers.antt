@@ -1,5 +1,5 @@
 -- `trig::bearing::left` meets its contract. Assumes nothing.
-use Rattle.std.proofs.Common.{ap, ◌∙◌, rules}
+use Rattle.std.proofs.Common.{ap, ◌∙◌}
 use Rattle.trig.proofs.Choices.{pick, drop}
 use Rattle.trig.specs.Arctangent.{grid_angle, lean_float, back_float, left_float}
 use Rattle.trig.proofs.bearing.left.Goals as goal

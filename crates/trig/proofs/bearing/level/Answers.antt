@@ -1,5 +1,5 @@
 -- `trig::bearing::level` meets its contract. Assumes nothing.
-use Rattle.std.proofs.Common.{sym, ◌∙◌, rules}
+use Rattle.std.proofs.Common.{sym, ◌∙◌}
 use Rattle.trig.proofs.Choices.{pick, drop}
 use Rattle.trig.specs.Arctangent.{level_float}
 use Rattle.trig.proofs.bearing.level.Goals as goal

@@ -1,5 +1,5 @@
 -- `trig::bearing::right` meets its contract. Assumes nothing.
-use Rattle.std.proofs.Common.{ap, ◌∙◌, rules}
+use Rattle.std.proofs.Common.{ap, ◌∙◌}
 use Rattle.trig.proofs.Choices.{pick, drop}
 use Rattle.trig.specs.Arctangent.{grid_angle, flat_float, rise_float, right_float}
 use Rattle.trig.proofs.bearing.right.Goals as goal

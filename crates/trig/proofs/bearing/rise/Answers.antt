@@ -1,5 +1,5 @@
 -- `trig::bearing::rise` meets its contract. Assumes nothing.
-use Rattle.std.proofs.Common.{◌∙◌, rules, le-ltb, lt-ltb}
+use Rattle.std.proofs.Common.{◌∙◌, le-ltb, lt-ltb}
 use Rattle.trig.proofs.Choices.{pick, drop}
 use Rattle.trig.specs.Arctangent.{rise_float}
 use Rattle.trig.proofs.bearing.rise.Goals as goal

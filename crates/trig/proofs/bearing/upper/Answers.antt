@@ -1,5 +1,5 @@
 -- `trig::bearing::upper` meets its contract. Assumes nothing.
-use Rattle.std.proofs.Common.{◌∙◌, rules}
+use Rattle.std.proofs.Common.{◌∙◌}
 use Rattle.trig.proofs.Choices.{pick, drop}
 use Rattle.trig.specs.Arctangent.{upper_float}
 use Rattle.trig.proofs.bearing.upper.Goals as goal

@@ -1,6 +1,5 @@
 -- `trig::degrees::pair_in_degrees` meets its contract. Assumes nothing.
-use Rattle.std.proofs.Common.{T, sym, ◌∙◌, subst, rules}
-use lib.Ieee.{binary64, fits}
+use Rattle.std.proofs.Common.{T, sym, subst}
 use Rattle.trig.proofs.DegreeNear.{size_within}
 use Rattle.trig.proofs.DegreeSteps.{degree_is, degree_first, sine_zero, sine_is, cosine_zero, cosine_is}
 use Rattle.trig.proofs.degrees.pair_in_degrees.Goals as goal

@@ -1,4 +1,4 @@
-use Rattle.std.proofs.Common.{arith, le→leb, rules}
+use Rattle.std.proofs.Common.{le→leb}
 use lib.Ieee.{in_float}
 use Rattle.trig.specs.DegreeSteps.{radians_of}
 use Rattle.trig.proofs.degrees.radians_of.Goals as goal

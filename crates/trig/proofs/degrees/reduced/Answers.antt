@@ -1,7 +1,5 @@
 -- `trig::degrees::reduced` meets its contract. Assumes nothing.
-use Rattle.std.proofs.Common.{◌≡◌, ℕ, ◌+◌, ◌-◌, ◌*◌, ◌^◌, ◌<◌, ◌≤◌, true, false, T, sym, ap, ◌∙◌, subst, arith, lit≤, rules}
-use lib.Ieee.{binary64, fits}
-use Rattle.trig.specs.DegreeSteps.{quarter_turns}
+use Rattle.std.proofs.Common.{true, false, T, sym, subst, arith, lit≤}
 use Rattle.trig.proofs.DegreeSteps.{in_range, at_most, k_few, beside_most, turn_small, turn_under, turn_over}
 use Rattle.trig.proofs.degrees.reduced.Goals as goal
 

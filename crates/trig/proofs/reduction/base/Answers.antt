@@ -1,9 +1,7 @@
 -- `trig::reduction::base` meets its contract. Assumes nothing.
-use Rattle.std.proofs.Common.{refl, rules}
+use Rattle.std.proofs.Common.{refl}
 use Rattle.trig.specs.Reduction.{base}
 use Rattle.trig.proofs.NearestTurn.{base_fits}
-use Rattle.trig.proofs.reduction.base.Reads as reads
-use Rattle.trig.proofs.reduction.base.Lts as lts
 use Rattle.trig.proofs.reduction.base.Goals as goal
 
 pub overflow_add-result : goal.overflow_add-result

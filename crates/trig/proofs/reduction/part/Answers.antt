@@ -1,8 +1,6 @@
 -- `trig::reduction::part` meets its contract. Assumes nothing.
-use Rattle.std.proofs.Common.{refl, rules}
+use Rattle.std.proofs.Common.{refl}
 use Rattle.trig.specs.Reduction.{part}
-use Rattle.trig.proofs.reduction.part.Reads as reads
-use Rattle.trig.proofs.reduction.part.Lts as lts
 use Rattle.trig.proofs.reduction.part.Goals as goal
 
 pub returns : goal.returns

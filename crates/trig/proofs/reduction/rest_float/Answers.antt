@@ -1,10 +1,7 @@
 -- `trig::reduction::rest_float` meets its contract. Assumes nothing.
-use Rattle.std.proofs.Common.{ap, rules}
+use Rattle.std.proofs.Common.{ap}
 use lib.Ieee.{Float, binary64, mul, of_bits}
 use Rattle.trig.specs.Reduction.{rest_float}
-use Rattle.trig.proofs.reduction.rest_float.Reads as reads
-use Rattle.trig.proofs.reduction.rest_float.Lts as lts
-use Rattle.std.proofs.num.nearest_u64_to_f64.Reads as nearest-u64-to-f64-reads
 use Rattle.trig.proofs.reduction.rest_float.Goals as goal
 
 pub returns : goal.returns

@@ -1,15 +1,7 @@
 -- `trig::reduction::turned` meets its contract. Assumes nothing.
-use Rattle.std.proofs.Common.{ℕ, ◌+◌, ◌-◌, ◌*◌, ◌^◌, ◌<◌, ◌≤◌, T, sym, subst, arith, lit≤, rules}
-use lib.Ieee.{binary64, fits}
+use Rattle.std.proofs.Common.{ℕ, ◌+◌, ◌-◌, ◌*◌, ◌^◌, ◌<◌, ◌≤◌, T, sym, subst, arith, lit≤}
 use Rattle.trig.proofs.WaveError.{in_range, at_most, k_few, lengths}
 use Rattle.trig.proofs.WaveSteps.{turn_small, turn_under, turn_over}
-use Rattle.trig.proofs.reduction.turned.Reads as reads
-use Rattle.trig.proofs.reduction.turned.Lts as lts
-use Rattle.std.proofs.num.truncating_f64_to_u64.Reads as truncating-f64-to-u64-reads
-use Rattle.trig.proofs.reduction.base.Reads as base-reads
-use Rattle.trig.proofs.reduction.part.Reads as part-reads
-use Rattle.trig.proofs.reduction.rest_float.Reads as rest-float-reads
-use Rattle.trig.proofs.reduction.turns.Reads as turns-reads
 use Rattle.trig.proofs.reduction.turned.Goals as goal
 
 under-fits : (b x p : ℕ) → (b ≤ x + 2 ^ 53) × (x ≤ b + 2 ^ 53) × (p < 512) → ((b - x) * 512 < 2 ^ 64) × ((b - x) * 512 + p < 2 ^ 64)

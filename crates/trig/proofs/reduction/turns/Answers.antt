@@ -1,9 +1,6 @@
 -- `trig::reduction::turns` meets its contract. Assumes nothing.
 use Rattle.trig.specs.Reduction.{tie as TheTie}
 use Rattle.trig.proofs.NearestTurn.{turns_up, turns_same, tie_fits, one_more_fits}
-use Rattle.std.proofs.Common.{rules}
-use Rattle.trig.proofs.reduction.turns.Reads as reads
-use Rattle.trig.proofs.reduction.turns.Lts as lts
 use Rattle.trig.proofs.reduction.turns.Goals as goal
 
 pub overflow_add-tie : goal.overflow_add-tie

@@ -1,6 +1,5 @@
 -- `trig::series::cosine_kernel` meets its contract. Assumes nothing.
-use Rattle.std.proofs.Common.{◌≡◌, T, sym, subst, rules}
-use lib.Ieee.{binary64, fits}
+use Rattle.std.proofs.Common.{T, sym, subst}
 use Rattle.trig.specs.Kernel.{cosine_kernel, CosineNear}
 use Rattle.trig.proofs.KernelLaws.{cosine_kernel_near}
 use Rattle.trig.proofs.series.cosine_kernel.Goals as goal

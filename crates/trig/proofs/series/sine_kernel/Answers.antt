@@ -1,6 +1,6 @@
 -- `trig::series::sine_kernel` meets its contract. Assumes nothing.
-use Rattle.std.proofs.Common.{◌≡◌, T, sym, ap, subst, rules}
-use lib.Ieee.{Float, binary64, mul, fits}
+use Rattle.std.proofs.Common.{T, sym, ap, subst}
+use lib.Ieee.{Float, binary64, mul}
 use Rattle.trig.specs.Kernel.{sine_kernel, SineNear}
 use Rattle.trig.proofs.KernelLaws.{sine_kernel_near}
 use Rattle.trig.proofs.series.sine_kernel.Goals as goal

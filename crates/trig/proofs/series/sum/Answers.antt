@@ -1,6 +1,5 @@
 -- `trig::series::sum` meets its contract: what is left of the sum, from here, is the whole of it. Assumes nothing.
-use Rattle.std.proofs.Common.{◌≡◌, ℕ, ◌<◌, ◌≤◌, sym, refl, ◌∙◌, arith}
-use Rattle.trig.specs.Kernel.{sum}
+use Rattle.std.proofs.Common.{refl, ◌∙◌, arith}
 use Rattle.trig.proofs.SumError.{sum_none, sum_more}
 use Rattle.trig.proofs.series.sum.Goals as goal
 

@@ -1,7 +1,6 @@
 -- `trig::series::sum` meets its contract: what is left of the sum, from here, is the whole of it. Assumes nothing.
-use Rattle.std.proofs.Common.{◌≡◌, ℕ, ◌<◌, ◌≤◌, sym, refl, ◌∙◌, arith}
+use Rattle.std.proofs.Common.{◌≡◌, ◌≤◌}
 use Rattle.trig.specs.Kernel.{sum}
-use Rattle.trig.proofs.SumError.{sum_none, sum_more}
 use Rattle.trig.proofs.series.sum.Given as goal
 
 abbrev pub invariant-loop-left : goal.invariant-loop-left

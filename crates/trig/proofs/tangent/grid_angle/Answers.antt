@@ -1,6 +1,5 @@
 -- `trig::tangent::grid_angle` meets its contract. Assumes nothing.
 use Rattle.trig.proofs.Bisection.{grid_kept, grid_halved}
-use Rattle.std.proofs.Common.{rules}
 use Rattle.trig.proofs.tangent.grid_angle.Goals as goal
 
 pub returns-then-passes : goal.returns-then-passes

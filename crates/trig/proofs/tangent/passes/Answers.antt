@@ -1,5 +1,5 @@
 -- `trig::tangent::passes` meets its contract. Assumes nothing.
-use Rattle.std.proofs.Common.{◌∙◌, rules}
+use Rattle.std.proofs.Common.{◌∙◌}
 use Rattle.trig.proofs.Choices.{pick, drop}
 use Rattle.trig.proofs.Bisection.{passes_is}
 use Rattle.trig.proofs.tangent.passes.Goals as goal

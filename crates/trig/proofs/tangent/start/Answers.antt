@@ -1,5 +1,5 @@
 -- `trig::tangent::start` meets its contract. Assumes nothing.
-use Rattle.std.proofs.Common.{ap, ◌∙◌, rules}
+use Rattle.std.proofs.Common.{ap, ◌∙◌}
 use lib.Ieee.{Float, binary64, add}
 use Rattle.trig.specs.Reduction.{quarter_pi}
 use Rattle.trig.proofs.Choices.{pick, drop}

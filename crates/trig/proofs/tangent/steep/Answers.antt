@@ -1,6 +1,5 @@
 -- `trig::tangent::steep` meets its contract. Assumes nothing.
 use Rattle.trig.proofs.Bisection.{steep_is}
-use Rattle.std.proofs.Common.{rules}
 use Rattle.trig.proofs.tangent.steep.Goals as goal
 
 pub returns : goal.returns

@@ -1,6 +1,5 @@
 -- `trig::waves::pair_value` meets its contract. Assumes nothing.
-use Rattle.std.proofs.Common.{T, sym, ◌∙◌, subst, rules}
-use lib.Ieee.{binary64, fits}
+use Rattle.std.proofs.Common.{T, sym, ◌∙◌, subst}
 use Rattle.trig.proofs.WaveError.{tame_size}
 use Rattle.trig.proofs.WaveSteps.{wave_is, wave_is_first, sine_is_zero, sine_is, cosine_is_zero, cosine_is}
 use Rattle.trig.proofs.waves.pair_value.Goals as goal

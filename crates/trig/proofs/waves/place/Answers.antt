@@ -1,5 +1,5 @@
 -- `trig::waves::place` meets its contract. Assumes nothing.
-use Rattle.std.proofs.Common.{◌∙◌, rules}
+use Rattle.std.proofs.Common.{◌∙◌}
 use Rattle.trig.proofs.WaveSteps.{sign_even, sign_odd}
 use Rattle.trig.proofs.waves.place.Goals as goal
 

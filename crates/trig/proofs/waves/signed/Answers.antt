@@ -1,8 +1,6 @@
 -- `trig::waves::signed` meets its contract. Assumes nothing.
-use Rattle.std.proofs.Common.{Bool, cond, sym, ap, rules}
+use Rattle.std.proofs.Common.{Bool, cond, sym, ap}
 use lib.Ieee.{neg}
-use Rattle.trig.proofs.waves.signed.Reads as reads
-use Rattle.trig.proofs.waves.signed.Lts as lts
 use Rattle.trig.proofs.waves.signed.Goals as goal
 
 pub returns-then-s : goal.returns-then-s

@@ -1,5 +1,5 @@
 -- `trig::waves::wave` meets its contract. Assumes nothing.
-use Rattle.std.proofs.Common.{◌%◌, ap, ◌∙◌, rules}
+use Rattle.std.proofs.Common.{◌%◌, ap, ◌∙◌}
 use lib.Ieee.{Float}
 use Rattle.trig.specs.Kernel.{sine_kernel, cosine_kernel}
 use Rattle.trig.specs.Waves.{placed}

@@ -2,12 +2,7 @@
 use Rattle.trig.specs.Waves.{placed}
 use Rattle.trig.specs.Kernel.{sine_kernel}
 use lib.Ieee.{Float}
-use Rattle.std.proofs.Common.{◌+◌, ◌%◌, ap, ◌∙◌, rules}
-use Rattle.trig.proofs.waves.waves.Reads as reads
-use Rattle.trig.proofs.waves.waves.Lts as lts
-use Rattle.trig.proofs.series.cosine_kernel.Reads as cosine-kernel-reads
-use Rattle.trig.proofs.waves.place.Reads as place-reads
-use Rattle.trig.proofs.series.sine_kernel.Reads as sine-kernel-reads
+use Rattle.std.proofs.Common.{◌+◌, ◌%◌, ap, ◌∙◌}
 use Rattle.trig.proofs.waves.waves.Goals as goal
 
 -- src/lib.rt:163:1
