@@ -1,6 +1,6 @@
 -- With a rest angle of +0.0 the cable number is the one that there was before there were rest angles: the largest whole k
 -- with 360 times k at most the size of some angle. On every path, refusals included.
-use Rattle.std.proofs.Common.{◌≡◌, ℕ, true, cond, T, ltb, List, [], ◌∷◌, length, sym, refl, ap, ◌∙◌}
+use Rattle.std.proofs.Common.{◌≡◌, ℕ, true, cond, T, ltb, List, [], ◌∷◌, length, refl, ap, ◌∙◌}
 use mathlib.Core.Bool.{and-eq-true_iff}
 use lib.Ieee.{Float, binary64, fits, of_bits, sub, le, lt, eq}
 use Rattle.lists.specs.Fold.{fold}
@@ -8,11 +8,10 @@ use Rattle.lists.specs.Search.{all}
 use Rattle.float.specs.Helpers.{nought, size_of}
 use Rattle.float.proofs.Zeros.{sub_zero}
 use Rattle.chain.specs.declared.Checked.{Checked}
-use Rattle.chain.specs.declared.Checked.TheVariants as Checked
 use Rattle.chain.specs.declared.Kinematics.{Kinematics}
 use Rattle.chain.specs.declared.Joints.{Joints}
 use Rattle.chain.specs.Check.{within, most_turned, joints_finite, joints_within}
-use Rattle.job.specs.Cable.{joint_sets, angle_of, rest_of, wind_of, turns_of, most_wound, turns_within, larger, most_turns, survey, cable_check, cable_unless, cable_of, cable_number}
+use Rattle.job.specs.Cable.{joint_sets, angle_of, rest_of, wind_of, turns_of, turns_within, larger, most_turns, survey, cable_check, cable_unless, cable_of, cable_number}
 use Rattle.job.specs.declared.Survey.{Survey}
 use Rattle.job.specs.declared.Cable.{Cable}
 use Rattle.job.proofs.CableLaws.{angle_within, cable_checked}

@@ -1,20 +1,18 @@
 -- What became of files as they were before there were rest angles: with the word 0 they are read exactly as before, and
 -- every rest angle is +0.0 (`word-nought`, `rests-nought`). A word other than 0 and 1 is refused behind everything that
 -- is judged of the same places with the word 0 (`other_word`).
-use Rattle.std.proofs.Common.{◌≡◌, ℕ, ◌+◌, ◌≤◌, Bool, true, false, cond, eqb, ltb, leb, List, [], ◌∷◌, length, sym, refl, ap, ◌∙◌, arith, le-ltb, ne_eqb}
+use Rattle.std.proofs.Common.{◌≡◌, ℕ, ◌+◌, ◌≤◌, Bool, true, false, cond, eqb, ltb, leb, List, [], ◌∷◌, length, refl, ap, ◌∙◌, arith, le-ltb, ne_eqb}
 use Rattle.float.specs.Helpers.{nought}
 use Rattle.refusal.specs.declared.Refusal.{Refusal}
 use Rattle.refusal.specs.Numbers as Numbers
 use Rattle.chain.specs.declared.Checked.{Checked}
-use Rattle.chain.specs.declared.Checked.TheVariants as Checked
 use Rattle.chain.specs.Bytes.{byte_at}
 use Rattle.chain.specs.Check.{demand, then, first_refusal, one_or_two}
-use Rattle.chain.specs.ChainBytes.{first_field, second_field, rest_at, rotary_at, no_rotary}
+use Rattle.chain.specs.ChainBytes.{second_field, rest_at, rotary_at, no_rotary}
 use Rattle.job.specs.JobBytes.{trailer, chain_field, poses_field, word_field, word_length, sized, places_in, chain_end, poses_end, apart, placed, chain_part, second_in, chain_in, job_at, job_unless, job_fields, job_from, read_job}
 use Rattle.job.specs.declared.Places.{Places}
 use Rattle.job.specs.declared.Job.{Job}
 use Rattle.job.specs.declared.JobRead.{JobRead}
-use Rattle.job.specs.declared.JobRead.TheVariants as JobRead
 use Rattle.job.proofs.JobWithin.{job_is}
 
 -- ---- the reader as it was: records of 72 bytes, and a word that must be 0

@@ -6,13 +6,12 @@ use Rattle.float.specs.Helpers.{nought}
 use Rattle.refusal.specs.declared.Refusal.{Refusal}
 use Rattle.refusal.specs.Numbers as Numbers
 use Rattle.chain.specs.declared.Checked.{Checked}
-use Rattle.chain.specs.declared.Checked.TheVariants as Checked
 use Rattle.chain.specs.declared.Kinematics.{Kinematics}
 use Rattle.chain.specs.Bytes.{byte_at, little_endian, number_at, vector_at, spare}
 use Rattle.chain.specs.Check.{demand, then}
 use Rattle.chain.specs.ChainBytes.{length_of_chain, zeros, flag, rotary_fields, travel_at, rest_at, rotary_at, no_rotary}
 use Rattle.chain.proofs.Bytes.{at_least_one}
-use Rattle.job.specs.JobBytes.{trailer, word_length, sized, places_in, placed, rotary_part, second_part, chain_part, second_in, chain_in, job_at, job_unless, job_fields, job_from, read_job}
+use Rattle.job.specs.JobBytes.{word_length, sized, places_in, placed, rotary_part, second_part, chain_part, second_in, chain_in, job_at, job_unless, job_fields, job_from, read_job}
 use Rattle.job.specs.JobPoses.{numbers_at, poses_of}
 use Rattle.job.specs.declared.Places.{Places}
 use Rattle.job.specs.declared.Job.{Job}

@@ -1,9 +1,8 @@
 -- A job has one chain, whoever reads it: the bytes of a job's chain by themselves, as a caller of the library hands
 -- them over, are read as the chain that the program takes from the job, with records of either length. Assumes nothing.
-use Rattle.std.proofs.Common.{◌≡◌, ℕ, zero, suc, ◌+◌, ◌-◌, ◌*◌, ◌<◌, ◌≤◌, Bool, true, false, cond, eqb, List, length, get_or, take, drop, sym, refl, ap, ◌∙◌, arith, length-drop, length-take-le, get_or-drop, get_or-take, le-ltb, eq-eqb, ne_eqb, eqb-true}
+use Rattle.std.proofs.Common.{◌≡◌, ℕ, zero, suc, ◌+◌, ◌*◌, ◌<◌, ◌≤◌, Bool, true, false, cond, eqb, List, length, take, drop, sym, refl, ap, ◌∙◌, arith, length-drop, length-take-le, get_or-drop, get_or-take, le-ltb, eq-eqb, ne_eqb, eqb-true}
 use Rattle.float.specs.Helpers.{nought}
 use Rattle.refusal.specs.Numbers as Numbers
-use Rattle.chain.specs.declared.Checked.{Checked}
 use Rattle.chain.specs.declared.Checked.TheVariants.{Passed}
 use Rattle.chain.specs.declared.ChainRead.TheVariants.{Chain}
 use Rattle.chain.specs.Bytes.{byte_at, little_endian, number_at, vector_at, spare}

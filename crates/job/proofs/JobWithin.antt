@@ -4,7 +4,6 @@ use mathlib.Core.Bool.{and-eq-true_iff, false≢true}
 use borrow.Author.Tests.{not-true}
 use Rattle.refusal.specs.Numbers as Numbers
 use Rattle.chain.specs.declared.Checked.{Checked}
-use Rattle.chain.specs.declared.Checked.TheVariants as Checked
 use Rattle.chain.specs.Bytes.{byte_at, little_endian}
 use Rattle.chain.specs.Check.{demand, one_or_two}
 use Rattle.chain.specs.ChainBytes.{length_of_chain}
@@ -14,7 +13,6 @@ use Rattle.job.specs.JobBytes.{four, trailer, word_length, sized, places_in, cha
 use Rattle.job.specs.declared.Places.{Places}
 use Rattle.job.specs.declared.Job.{Job}
 use Rattle.job.specs.declared.JobRead.{JobRead}
-use Rattle.job.specs.declared.JobRead.TheVariants as JobRead
 
 -- four bytes
 pub four_is : (l : List ℕ) (at : ℕ)

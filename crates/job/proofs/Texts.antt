@@ -1,5 +1,5 @@
 -- Laws of whole texts: their lengths, and what is put of them step by step.
-use Rattle.std.proofs.Common.{◌≡◌, ℕ, ◌+◌, ◌/◌, ◌<◌, ◌≤◌, true, false, List, [], ◌++◌, length, set, sym, ap, ◌∙◌, arith, length-append, le-leb, leb-false, leb-true}
+use Rattle.std.proofs.Common.{◌≡◌, ℕ, ◌+◌, ◌/◌, ◌<◌, ◌≤◌, true, false, List, ◌++◌, length, set, sym, ap, ◌∙◌, arith, length-append, le-leb, leb-false, leb-true}
 use borrow.Author.Tests.{lt-leb}
 use lib.Ieee.{Float}
 use Rattle.lists.proofs.Rows.{length_rows}
@@ -11,7 +11,6 @@ use Rattle.job.specs.Spelling.{written, width, labelled, paired}
 use Rattle.job.specs.Telling.{newline, poses_word, inserted_word, turns_word, space, refused_word, pose_word, lines, lines_length, lines_fit, head, head_length, path_text, refusal_text, pose_text, told, told_over, no_space}
 use Rattle.job.specs.declared.Figures.{Figures}
 use Rattle.job.specs.declared.Told.{Told}
-use Rattle.job.specs.declared.Told.TheVariants as Told
 use Rattle.job.proofs.Written.{written_append, length_labelled, length_paired, put_last}
 use Rattle.job.proofs.Lines.{length_lines}
 

@@ -1,6 +1,6 @@
 -- Two angles of at most 36,000 degrees differ, in floats, by at most 72,000: of every two floats, doubles or not. So
 -- every wind of a path that passes the checks is counted.
-use Rattle.std.proofs.Common.{◌≡◌, ℕ, zero, suc, ◌+◌, ◌-◌, ◌*◌, ◌^◌, ◌<◌, ◌≤◌, Bool, true, false, cond, not, ◌&&◌, ◌||◌, T, eqb, ltb, ℤ, sym, refl, ap, ◌∙◌, subst, mul-pos, arith, ltb-false, ltb-true, eqb-true}
+use Rattle.std.proofs.Common.{◌≡◌, ℕ, zero, suc, ◌+◌, ◌-◌, ◌*◌, ◌^◌, ◌<◌, ◌≤◌, Bool, true, false, cond, not, ◌&&◌, ◌||◌, eqb, ltb, ℤ, sym, refl, ap, ◌∙◌, mul-pos, arith, ltb-true, eqb-true}
 use mathlib.Core.Bool.{beq, false≢true}
 use lib.Ieee.{Float, nan, inf, fin, binary64, up, down, odd, units, round, neg, sum, add, sub, lt, eq, le, of_bits}
 use lib.Ieee.Bits.{is_true}

@@ -10,14 +10,12 @@ use Rattle.lists.specs.Rows.{rows}
 use Rattle.lists.specs.Search.{all}
 use Rattle.refusal.specs.Numbers as Numbers
 use Rattle.chain.specs.declared.Checked.{Checked}
-use Rattle.chain.specs.declared.Checked.TheVariants as Checked
 use Rattle.chain.specs.declared.Joints.{Joints}
 use Rattle.chain.specs.declared.Kinematics.{Kinematics}
 use Rattle.chain.specs.Check.{demand, first_refusal, chain_check, chain_within, joints_finite, joints_within, within}
 use Rattle.turn.specs.Items.{joints_from}
 use Rattle.job.specs.declared.Survey.{Survey}
 use Rattle.job.specs.declared.Cable.{Cable}
-use Rattle.job.specs.declared.Cable.TheVariants as Cable
 
 -- ---- the joint sets, five numbers each
 unfoldable pub joint_sets : List Float → List Joints

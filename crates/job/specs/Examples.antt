@@ -12,7 +12,6 @@ use Rattle.chain.specs.ChainBytes.{zeros, flag, rotary_fields}
 use Rattle.job.specs.declared.Figures.{Figures}
 use Rattle.job.specs.declared.Ended.TheVariants as Ended
 use Rattle.job.specs.declared.JobRead.{JobRead}
-use Rattle.job.specs.declared.JobRead.TheVariants as JobRead
 use Rattle.job.specs.JobBytes.{word_length, sized, places_in, chain_end, poses_end, apart, placed, rotary_part, second_part, chain_part, second_in, chain_in, job_at, job_fields, job_from, read_job}
 use Rattle.job.specs.Cable.{turns_of, most_wound}
 use Rattle.job.specs.Spelling.{digit, digits, width_within, width, decimal, labelled, paired, bits_of, number}

@@ -4,13 +4,11 @@ use Rattle.lists.specs.Padding.{padded}
 use Rattle.float.specs.Helpers.{nought}
 use Rattle.refusal.specs.Numbers as Numbers
 use Rattle.chain.specs.declared.Checked.{Checked}
-use Rattle.chain.specs.declared.Checked.TheVariants as Checked
 use Rattle.chain.specs.Bytes.{number_at}
 use Rattle.chain.specs.Check.{demand, first_refusal}
 use Rattle.job.specs.JobBytes.{read_job}
 use Rattle.job.specs.declared.Job.{Job}
 use Rattle.job.specs.declared.JobRead.{JobRead}
-use Rattle.job.specs.declared.JobRead.TheVariants as JobRead
 
 -- n numbers of 8 bytes, one behind the other
 unfoldable pub numbers_at : ℕ → List ℕ → ℕ → List Float

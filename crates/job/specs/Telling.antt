@@ -5,10 +5,8 @@ use Rattle.refusal.specs.Numbers as Numbers
 use Rattle.chain.specs.declared.Joints.{Joints}
 use Rattle.job.specs.Spelling.{written, width, decimal, labelled, paired, number}
 use Rattle.job.specs.declared.Ended.{Ended}
-use Rattle.job.specs.declared.Ended.TheVariants as Ended
 use Rattle.job.specs.declared.Figures.{Figures}
 use Rattle.job.specs.declared.Told.{Told}
-use Rattle.job.specs.declared.Told.TheVariants as Told
 use Rattle.refusal.specs.declared.Refusal.{Refusal}
 
 abbrev pub newline : List ℕ

@@ -15,7 +15,7 @@ use Rattle.chain.specs.declared.Mount.TheVariants.{Table, Head, Absent}
 use Rattle.chain.specs.declared.Prepared.{Prepared}
 use Rattle.chain.specs.declared.Spin.{Spin}
 use Rattle.chain.specs.declared.Turns.{Turns}
-use Rattle.chain.specs.Check.{demand, then, chain_check, rotary_check, second_check, one_or_two, has_direction}
+use Rattle.chain.specs.Check.{demand, chain_check, rotary_check, second_check, one_or_two}
 use Rattle.chain.specs.Forward.{by_head, by_table, head_vector, table_vector, reach_axis, reach, forward_core, turns_of}
 use Rattle.chain.specs.Prepared.{unit_axis, prepared}
 use Rattle.chain.proofs.Passing.{then_passed, demand_passed}

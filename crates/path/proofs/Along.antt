@@ -9,7 +9,6 @@ use Rattle.lists.proofs.Rows.{length_rows}
 use Rattle.refusal.specs.declared.Refusal.{Refusal}
 use Rattle.chain.proofs.Passing.{refused_passed}
 use Rattle.chain.specs.declared.Checked.{Checked}
-use Rattle.chain.specs.declared.Checked.TheVariants as Checked
 use Rattle.chain.specs.declared.Joints.{Joints}
 use Rattle.chain.specs.declared.Kinematics.{Kinematics}
 use Rattle.chain.specs.declared.ToolPose.{ToolPose}
@@ -18,7 +17,6 @@ use Rattle.path.specs.Exact.{angles_of}
 use Rattle.path.specs.Posing.{pose_answer}
 use Rattle.path.specs.Solving.{PathAnswer, Along, AtPose, Kept, pose_from, poses_in, then_on, with_pose, solve_poses, unless_kept, solve_check, solve_checked, solve_path, checked_in}
 use Rattle.path.specs.declared.PoseAnswer.{PoseAnswer}
-use Rattle.path.specs.declared.PoseAnswer.TheVariants as PoseAnswer
 use Rattle.path.specs.declared.Setup.{Setup}
 use Rattle.path.specs.declared.Start.{Start}
 

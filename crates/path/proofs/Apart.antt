@@ -7,7 +7,7 @@ use mathlib.Core.Logic.{◌↔◌}
 use mathlib.Core.List.{List, [], ◌∷◌}
 use lib.Dec.{eqb, leb}
 use lib.ListN.{length}
-use lib.Ieee.{Float, binary64, mul, lt}
+use lib.Ieee.{Float, binary64, lt}
 use lib.Ieee.Fits.{mul-fits}
 use lib.Ieee.Scale.{finite}
 use Rattle.float.proofs.Commute.{mul_commutes, square_sub_symmetric}

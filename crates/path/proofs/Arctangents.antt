@@ -1,7 +1,7 @@
 -- Every arctangent and arccosine that solve_path asks is served: for unit vectors, all the numbers between are bounded.
 -- So the lock, the angle to the nearer pole and the frame are those of definitions without a fallback.
-use mathlib.Core.Path.{◌≡◌, refl, sym, ap, ◌∙◌, subst}
-use mathlib.Core.Bool.{Bool, true, false, cond, false≢true}
+use mathlib.Core.Path.{◌≡◌, refl, ap, ◌∙◌}
+use mathlib.Core.Bool.{Bool, true, false, cond}
 use Prim.Native.Nat.{ℕ, ◌+◌, ◌≤◌, ◌<◌}
 use native.Mathlib.Omega.{arith}
 use lib.Dec.{lit≤}
@@ -29,7 +29,7 @@ use Rattle.geometry.proofs.FitVectors.{dot_fits}
 use Rattle.geometry.proofs.Lengths.{norm_small}
 use Rattle.geometry.proofs.Quotients.{not_below, over_length}
 use Rattle.geometry.proofs.Range.{Turnable, plain_turn, turn_served}
-use Rattle.inverse.specs.Subproblem.{shortest, sp1}
+use Rattle.inverse.specs.Subproblem.{shortest}
 use Rattle.inverse.specs.AxisMap.{minus_one, placed, hint_x, hint_y}
 use Rattle.inverse.specs.declared.Angles.{Angles}
 use Rattle.inverse.specs.declared.AxisMap.{AxisMap}
@@ -37,12 +37,9 @@ use Rattle.inverse.proofs.Arctangents.{plain_sp1, sp1_plain}
 use Rattle.path.specs.Singular.{in_sense, frame_on, frame_of_two, pole_clearance_deg, nearest_pole, millionth, thousandth}
 use Rattle.path.specs.Locking.{square_part, on_circle, closest_on_circle, fixed_only, toward, fit, fit_second, fit_first, fitted, locks_x, locked_x, locked_y, locked_angles}
 use Rattle.path.specs.declared.Fit.{Fit}
-use Rattle.path.specs.declared.Fit.TheVariants as Fit
 use Rattle.path.specs.declared.Frame.{Frame}
 use Rattle.path.specs.declared.Frame.TheVariants.{Singular, Regular}
 use Rattle.path.specs.declared.Nearest.{Nearest}
-use Rattle.path.specs.declared.Nearest.TheVariants as Nearest
-use Rattle.path.specs.declared.SingularFrame.{SingularFrame}
 
 -- ---- the frame: the loop of the Rust starts from -1, and of two rotaries takes the first unless the second is nearer
 unfoldable pub loop_frame : Vec3 → Vec3 → Vec3 → Frame

@@ -1,10 +1,10 @@
 -- Of two squares that are far apart the roots are in the same order: the root grows with its argument, and those of 8,100 and 10,000 are 90 and 100.
 use mathlib.Core.Path.{◌≡◌, refl, sym, ◌∙◌}
-use mathlib.Core.Bool.{Bool, true, false, not, ◌&&◌, true≢false, false≢true}
+use mathlib.Core.Bool.{Bool, true, false, ◌&&◌, true≢false, false≢true}
 use lib.Dec.{T}
-use lib.Ieee.{Float, binary64, round, of_bits, le, lt, eq, is_nan, fits}
+use lib.Ieee.{Float, binary64, round, of_bits, le, lt, eq, fits}
 use lib.Ieee.Bits.{of_bits-fits}
-use Rattle.float.specs.Helpers.{nought, negative}
+use Rattle.float.specs.Helpers.{nought}
 use Rattle.root.specs.Root.{root}
 use Rattle.float.specs.TotalOrder.{before}
 use Rattle.float.proofs.Order as order

@@ -1,8 +1,8 @@
 -- Where the cosine c is at most 63 / 64 in size and (1 - c) (1 + c) at least 127 / 4096, the arccosine is at least 715 / 4096, a little over 10 degrees. For were the angle r smaller, then
 -- S(r) ≤ r and 1 - r² / 2 ≤ C(r) would leave y C(r) - c S(r) far from zero, for the root y is at least 721 / 4096; and the arccosine's promise is that it is next to zero.
-use mathlib.Core.Path.{◌≡◌, refl, sym, ap, ◌∙◌, subst}
+use mathlib.Core.Path.{◌≡◌, refl, ap, ◌∙◌, subst}
 use mathlib.Core.Bool.{Bool, true, false, cond, ◌&&◌, true≢false, false≢true}
-use Prim.Native.Nat.{ℕ, zero, suc, ◌+◌, ◌-◌, ◌*◌, ◌/◌, ◌%◌, ◌^◌, ◌≤◌, ◌<◌}
+use Prim.Native.Nat.{ℕ, ◌+◌, ◌-◌, ◌*◌, ◌%◌, ◌^◌, ◌≤◌, ◌<◌}
 use native.Mathlib.Nat.{le_trans, mul-le-mul, mul-le-mul_right, le_of_mul-le-mul_right, mul-pos, mul-lt-mul_of_pos_right, div-eq_of_lt}
 use native.Mathlib.Omega.{arith}
 use borrow.Author.Tests.{le-ltb}
@@ -30,7 +30,7 @@ use Rattle.root.proofs.RootOrder.{root_mono}
 use Rattle.trig.specs.Arccosine.{sine_of_cosine, cosine_range, arccosine_of, ArccosineValue, ArccosineAnswer}
 use Rattle.trig.proofs.ArccosineLaws.{sine_sound, arccosine_answer}
 use Rattle.path.specs.Singular.{ten_degrees, wide, least_square, well_outside, pole_clearance_deg, in_singular_cone}
-use Rattle.trig.specs.Fraction.{Frac, negated, product, total, difference, worth, Small}
+use Rattle.trig.specs.Fraction.{Frac, product, difference, worth, Small}
 use Rattle.trig.specs.Taylor.{sin_sum, cos_sum}
 use Rattle.trig.specs.Angle.{pi_num, pi_den, nearest_k, under, gap, place, wave, sine, cosine}
 use Rattle.trig.specs.Direction.{larger, residual, Toward}

@@ -21,21 +21,19 @@ use Rattle.refusal.specs.Numbers.{not_finite, too_large, pose_unreachable}
 use Rattle.geometry.specs.declared.Vec3.{Vec3}
 use Rattle.geometry.specs.declared.Direction.{Direction}
 use Rattle.geometry.specs.declared.Direction.TheVariants.{Unit as UnitOf, Nowhere}
-use Rattle.geometry.specs.Vector.{cross, norm, plus, times}
+use Rattle.geometry.specs.Vector.{cross, norm, plus}
 use Rattle.geometry.specs.Direction.{all_finite, unit_direction, along}
-use Rattle.geometry.specs.Slerp.{half_turn_degrees, angle_between_deg}
+use Rattle.geometry.specs.Slerp.{half_turn_degrees}
 use Rattle.geometry.proofs.Bounded.{SmallVec, vec_raise}
 use Rattle.geometry.proofs.FitVectors.{FitVec, unit_fits, unit_or_fits}
 use Rattle.geometry.proofs.AngleBetween.{plain_angle, angle_between}
 use Rattle.geometry.proofs.UnitSize.{unit_small}
 use Rattle.chain.specs.declared.Checked.{Checked}
-use Rattle.chain.specs.declared.Checked.TheVariants as Checked
 use Rattle.chain.specs.declared.Joints.{Joints}
 use Rattle.chain.specs.declared.Kinematics.{Kinematics}
 use Rattle.chain.specs.declared.Mount.{Mount}
 use Rattle.chain.specs.declared.Mount.TheVariants.{Table, Head, Absent}
 use Rattle.chain.specs.declared.Posed.{Posed}
-use Rattle.chain.specs.declared.Posed.TheVariants as Posed
 use Rattle.chain.specs.declared.Prepared.{Prepared}
 use Rattle.chain.specs.declared.ToolPose.{ToolPose}
 use Rattle.chain.specs.Check.{chain_check, all_within, longest}
@@ -43,10 +41,10 @@ use Rattle.chain.specs.Forward.{turns_of, reach, forward_core}
 use Rattle.chain.specs.Prepared.{prepared}
 use Rattle.chain.proofs.UnitAxes.{FitAxes, SecondUnit, UnitChain, chain_units}
 use Rattle.inverse.specs.Subproblem.{shortest}
-use Rattle.inverse.specs.AxisMap.{axis_map_of, hint_x, hint_y}
+use Rattle.inverse.specs.AxisMap.{axis_map_of}
 use Rattle.inverse.specs.Orientation.{orientation_angles}
 use Rattle.inverse.specs.Solutions.{origin}
-use Rattle.inverse.specs.Inverse.{pose_at, misses, joints_at}
+use Rattle.inverse.specs.Inverse.{pose_at, misses}
 use Rattle.inverse.specs.declared.Angles.{Angles}
 use Rattle.inverse.specs.declared.RawAngles.{RawAngles}
 use Rattle.inverse.specs.declared.RawAngles.TheVariants as Raw
@@ -59,9 +57,8 @@ use Rattle.path.specs.Singular.{millionth, frame_of_two, of_two, singular_frame,
 use Rattle.path.specs.Locking.{refused, within_limits, locked_angles, finite_position, placed_at, locked_joints, strays, limited, unless_straying, cone_solution}
 use Rattle.path.specs.Exact.{reached_by, candidate, angles_of, repeats, second_candidate, of_positions, of_raw, exact_pose}
 use Rattle.path.specs.Posing.{bounds_of, set_up, locked_or_exact, by_frame, solve_one, with_turns, solved_tip, solved_pose, at_pose, pose_answer}
-use Rattle.path.specs.Solving.{PathAnswer, Along, AtPose, Kept, then_on, with_pose, solve_poses, start_angles, poses_in, solve_check, unless_kept, solve_checked, solve_path}
+use Rattle.path.specs.Solving.{PathAnswer, Along, then_on, with_pose, solve_poses, start_angles, poses_in, solve_check, unless_kept, solve_checked, solve_path}
 use Rattle.path.specs.declared.Candidate.{Candidate}
-use Rattle.path.specs.declared.Candidate.TheVariants as Candidate
 use Rattle.path.specs.declared.Frame.{Frame}
 use Rattle.path.specs.declared.Frame.TheVariants.{Singular, Regular}
 use Rattle.path.specs.declared.PoseAnswer.{PoseAnswer}

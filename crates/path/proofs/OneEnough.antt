@@ -21,13 +21,11 @@ use Rattle.inverse.specs.declared.RawAngles.{RawAngles}
 use Rattle.inverse.specs.declared.RawAngles.TheVariants as Raw
 use Rattle.path.specs.Unwinding.{unwind_angles, inside}
 use Rattle.path.specs.Locking.{within_limits}
-use Rattle.path.specs.Exact.{reached_by, candidate, angles_of, repeats, second_candidate, position_finite, unwound, ranked, ranks_before, closest_or_other, of_ranked, alone, both, of_candidates, of_positions, of_raw}
+use Rattle.path.specs.Exact.{reached_by, angles_of, repeats, second_candidate, unwound, ranked, ranks_before, closest_or_other, of_ranked, alone, both, of_candidates, of_positions, of_raw}
 use Rattle.path.specs.Closest.{bounded_spin, bounded, turned_to, kept_at, kept_of, kept, distance, closer, closest_alone}
 use Rattle.path.specs.declared.Bounds.{Bounds}
 use Rattle.path.specs.declared.Candidate.{Candidate}
-use Rattle.path.specs.declared.Candidate.TheVariants as Candidate
-use Rattle.path.specs.declared.PoseAnswer.{PoseAnswer}
-use Rattle.path.specs.declared.PoseAnswer.TheVariants.{At, Refused}
+use Rattle.path.specs.declared.PoseAnswer.TheVariants.{At}
 use Rattle.path.specs.declared.Setup.{Setup}
 use Rattle.path.proofs.Positions.{SmallSpin, SmallChain, within_small, candidate_finite}
 

@@ -28,7 +28,6 @@ use Rattle.inverse.specs.declared.RawAngles.{RawAngles}
 use Rattle.inverse.specs.declared.RawAngles.TheVariants as Raw
 use Rattle.path.specs.Exact.{reached_by, candidate, position_finite}
 use Rattle.path.specs.declared.Candidate.{Candidate}
-use Rattle.path.specs.declared.Candidate.TheVariants as Candidate
 
 -- ---- a sine and a cosine are at most 2
 below_small : Small 0 (neg nought)

@@ -13,11 +13,9 @@ use Rattle.float.specs.Helpers.{nought, size_of}
 use Rattle.refusal.specs.Numbers.{pose_unreachable}
 use Rattle.geometry.specs.declared.Vec3.{Vec3}
 use Rattle.geometry.specs.declared.Direction.{Direction}
-use Rattle.geometry.specs.declared.Direction.TheVariants as Direction
 use Rattle.geometry.specs.Vector.{cross, norm}
 use Rattle.geometry.specs.Direction.{all_finite, unit_direction, along}
 use Rattle.chain.specs.declared.Checked.{Checked}
-use Rattle.chain.specs.declared.Checked.TheVariants as Checked
 use Rattle.chain.specs.declared.Joints.{Joints}
 use Rattle.chain.specs.declared.Mount.TheVariants.{Absent}
 use Rattle.chain.specs.declared.Kinematics.{Kinematics}
@@ -33,7 +31,6 @@ use Rattle.inverse.specs.declared.Angles.{Angles}
 use Rattle.inverse.specs.declared.RawAngles.{RawAngles}
 use Rattle.inverse.specs.declared.RawAngles.TheVariants as Raw
 use Rattle.inverse.specs.declared.Solved.{Solved}
-use Rattle.inverse.specs.declared.Solved.TheVariants as Solved
 use Rattle.path.specs.Unwinding.{unwind_angles, inside, different_branch}
 use Rattle.path.specs.Singular.{singular_frame, in_singular_cone, nearest_pole}
 use Rattle.path.specs.Locking.{refused, within_limits, finite_position, placed_at, locked_joints, strays, limited, unless_straying, cone_solution}
@@ -43,7 +40,6 @@ use Rattle.path.specs.Solving.{PathAnswer, Along, AtPose, Kept, then_on, with_po
 use Rattle.path.specs.Promise.{Served, OnPath}
 use Rattle.path.specs.declared.Bounds.{Bounds}
 use Rattle.path.specs.declared.Candidate.{Candidate}
-use Rattle.path.specs.declared.Candidate.TheVariants as Candidate
 use Rattle.path.specs.declared.Frame.{Frame}
 use Rattle.path.specs.declared.Frame.TheVariants.{Singular, Regular}
 use Rattle.path.specs.declared.PoseAnswer.{PoseAnswer}

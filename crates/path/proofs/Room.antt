@@ -13,7 +13,6 @@ use Rattle.float.proofs.UpTo.{up_to_more, nought_up_to}
 use Rattle.geometry.specs.declared.Vec3.{Vec3}
 use Rattle.geometry.proofs.UnitSize.{UnitSized}
 use Rattle.chain.specs.declared.Carrier.{Carrier}
-use Rattle.chain.specs.declared.Carrier.TheVariants as Carrier
 use Rattle.chain.specs.declared.Checked.TheVariants.{Passed}
 use Rattle.chain.specs.declared.RotaryJoint.{RotaryJoint}
 use Rattle.chain.specs.declared.Kinematics.{Kinematics}

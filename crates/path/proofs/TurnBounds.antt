@@ -1,9 +1,9 @@
 -- Every angle that solve_path turns a rotary by is finite and within 37,000 degrees: at every pose, outside the cone
 -- and inside it (`pose-turns`), all along the path (`path-turns`).
-use mathlib.Core.Path.{◌≡◌, refl}
-use mathlib.Core.Bool.{Bool, true, false, not, and-eq-true_iff}
+use mathlib.Core.Path.{◌≡◌}
+use mathlib.Core.Bool.{Bool, true, not, and-eq-true_iff}
 use mathlib.Core.List.{List, [], ◌∷◌}
-use Prim.Native.Nat.{ℕ, suc, ◌*◌, ◌≤◌}
+use Prim.Native.Nat.{ℕ, suc, ◌≤◌}
 use lib.Dec.{lit≤, lit<}
 use lib.ListN.{length}
 use lib.Ieee as Ieee
@@ -24,7 +24,7 @@ use Rattle.chain.specs.declared.ToolPose.{ToolPose}
 use Rattle.chain.specs.Check.{within, most_turned}
 use Rattle.chain.proofs.NeverFallback.{most_turned_lem}
 use Rattle.inverse.specs.Subproblem.{shortest, sp1}
-use Rattle.inverse.specs.AxisMap.{axis_map_of, placed, hint_x, hint_y}
+use Rattle.inverse.specs.AxisMap.{axis_map_of, hint_x, hint_y}
 use Rattle.inverse.specs.Orientation.{orientation_angles}
 use Rattle.inverse.specs.Inverse.{pose_at, misses, joints_at}
 use Rattle.inverse.specs.declared.Angles.{Angles}
@@ -32,24 +32,20 @@ use Rattle.inverse.specs.declared.AxisMap.{AxisMap}
 use Rattle.inverse.specs.declared.RawAngles.{RawAngles}
 use Rattle.inverse.specs.declared.RawAngles.TheVariants as Raw
 use Rattle.inverse.specs.declared.Solved.{Solved}
-use Rattle.inverse.specs.declared.Solved.TheVariants as Solved
 use Rattle.inverse.specs.declared.SolvedAngle.TheVariants.{Fixed, Free}
 use Rattle.inverse.proofs.AngleBounds.{FixedIn, sp1_within, Signs, axis_signs, PairUpTo, RawUpTo, placed_up_to, hint_x_lem, hint_y_lem, raw_within, BothTurnable, both_turnable}
-use Rattle.path.specs.Unwinding.{unwind_angle, unwind_angles, inside, axis_outside, different_branch}
+use Rattle.path.specs.Unwinding.{unwind_angles, inside, different_branch}
 use Rattle.path.specs.Singular.{in_singular_cone, nearest_pole}
 use Rattle.path.specs.Locking.{refused, within_limits, closest_on_circle, fixed_only, toward, fit, fit_second, fit_first, fitted, locks_x, locked_x, locked_y, locked_angles, finite_position, placed_at, locked_joints, strays, limited, unless_straying, cone_solution}
 use Rattle.path.specs.Exact.{reached_by, candidate, angles_of, repeats, second_candidate, position_finite, unwound, ranked, ranks_before, closest_or_other, of_ranked, alone, both, of_candidates, of_positions, of_raw, exact_pose}
-use Rattle.path.specs.Posing.{set_up, locked_or_exact, by_frame, solve_one, turned_within, pose_answer}
+use Rattle.path.specs.Posing.{set_up, by_frame, solve_one, turned_within, pose_answer}
 use Rattle.path.specs.Solving.{poses_in, start_angles, solve_check}
 use Rattle.path.specs.declared.Bounds.{Bounds}
 use Rattle.path.specs.declared.Candidate.{Candidate}
-use Rattle.path.specs.declared.Candidate.TheVariants as Candidate
 use Rattle.path.specs.declared.Fit.{Fit}
-use Rattle.path.specs.declared.Fit.TheVariants as Fit
 use Rattle.path.specs.declared.Frame.{Frame}
 use Rattle.path.specs.declared.Frame.TheVariants.{Singular, Regular}
 use Rattle.path.specs.declared.Nearest.{Nearest}
-use Rattle.path.specs.declared.Nearest.TheVariants as Nearest
 use Rattle.path.specs.declared.PoseAnswer.{PoseAnswer}
 use Rattle.path.specs.declared.PoseAnswer.TheVariants.{At, Refused}
 use Rattle.path.specs.declared.Ranked.{Ranked}

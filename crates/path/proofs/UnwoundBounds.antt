@@ -1,18 +1,18 @@
 -- An angle of at most 36,180 degrees, unwound beside one of at most 36,000, is at most 37,000: it ends within half a
 -- turn of the angle before, and the roundings on the way are less than two degrees.
-use mathlib.Core.Path.{◌≡◌, refl, sym, ap, subst}
-use mathlib.Core.Bool.{Bool, true, false, not, cond}
+use mathlib.Core.Path.{◌≡◌, refl, subst}
+use mathlib.Core.Bool.{Bool, true, false, not}
 use Prim.Native.Nat.{ℕ, ◌+◌, ◌*◌, ◌^◌, ◌≤◌, ◌<◌}
-use native.Mathlib.Nat.{le_trans, le_of_eq, lt_of_lt_of_le, lt_of_le_of_lt, mul-pos, mul-le-mul_right, mul-lt-mul_of_pos_right}
+use native.Mathlib.Nat.{le_of_eq, lt_of_lt_of_le, lt_of_le_of_lt, mul-pos, mul-lt-mul_of_pos_right}
 use native.Mathlib.Omega.{arith}
-use lib.Dec.{T, lit≤, lit<}
+use lib.Dec.{lit≤, lit<}
 use lib.Ieee as Ieee
 use lib.Ieee.{Float, binary64, unlike, add, sub, mul, div, of_bits}
 use lib.Ieee.Scale.{finite}
 use Rattle.float.specs.Units.{U, Is}
 use Rattle.float.specs.Helpers.{nought, round_half_away}
 use Rattle.float.proofs.Rounding.{W, U-is, U_pos, W-pos, Rounded, within_scale, div_rounded}
-use Rattle.float.proofs.Signed.{pl, mi, Rnd, rnd_add}
+use Rattle.float.proofs.Signed.{pl, mi, rnd_add}
 use Rattle.float.proofs.SignedError.{NearUnits, sub_near}
 use Rattle.float.proofs.UpTo.{UpTo, up_to_more, rnd_up_to, Rounds, rounds, whole_mul}
 use Rattle.trig.proofs.Choices.{chosen}

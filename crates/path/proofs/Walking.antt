@@ -1,12 +1,12 @@
 -- The loop over the poses: what is solved so far, and what the rest of the path comes to from there. One record for its invariant, and a law each for its start, its step, a refusal and its end.
-use Prim.Native.Nat.{ℕ, zero, suc, ◌+◌, ◌-◌, ◌*◌, ◌/◌, ◌≤◌, ◌<◌}
+use Prim.Native.Nat.{ℕ, suc, ◌+◌, ◌-◌, ◌*◌, ◌/◌, ◌≤◌, ◌<◌}
 use native.Mathlib.Numerals.{add-one, towards_suc}
 use native.Mathlib.Nat.{sub-zero}
 use native.Mathlib.Omega.{arith}
 use mathlib.Core.Path.{◌≡◌, refl, sym, ap, ◌∙◌}
 use mathlib.Core.Bool.{true}
 use mathlib.Core.List.{List, [], ◌∷◌, ◌++◌, append-nil}
-use lib.ListN.{length, take, drop, set, length-set, length-append}
+use lib.ListN.{length, take, drop, length-set, length-append}
 use lib.Seq.{sets, sets-eq, take_at, length-take-le, drop-drop}
 use lib.Ieee.{Float}
 use Rattle.float.specs.Helpers.{nought}
@@ -21,7 +21,7 @@ use Rattle.inverse.specs.declared.Angles.{Angles}
 use Rattle.path.specs.Closest.{bounded}
 use Rattle.path.specs.Exact.{angles_of}
 use Rattle.path.specs.Posing.{pose_answer}
-use Rattle.path.specs.Solving.{PathAnswer, Along, AtPose, Kept, then_on, pose_from, pose_in, poses_in, joint_numbers, joints_over, solve_poses, checked_in, path_over, refusal_in}
+use Rattle.path.specs.Solving.{PathAnswer, Along, AtPose, then_on, pose_from, pose_in, poses_in, joint_numbers, joints_over, solve_poses, checked_in, path_over, refusal_in}
 use Rattle.path.specs.declared.PoseAnswer.{PoseAnswer}
 use Rattle.path.specs.declared.PoseAnswer.TheVariants.{At, Refused}
 use Rattle.path.specs.declared.Setup.{Setup}

@@ -1,6 +1,6 @@
 -- Outside the cone: the solutions of the raw angles, at most two; the closest to the angles before, as long as it is within the limits; else the other one, if that is within them and on the same branch.
 -- The position is that of the raw angles, the answer's angles are unwound.
-use Rattle.std.specs.Prelude.{Bool, true, false, not, cond, Float}
+use Rattle.std.specs.Prelude.{Bool, true, false, not, cond}
 use Rattle.float.specs.Helpers.{nought}
 use Rattle.float.specs.TotalOrder.{before}
 use Rattle.refusal.specs.Numbers.{not_finite, branch_flips, pose_unreachable}
@@ -19,9 +19,8 @@ use Rattle.path.specs.Unwinding.{unwind_angles, rotary_distance, different_branc
 use Rattle.path.specs.Locking.{refused, within_limits}
 use Rattle.path.specs.declared.Bounds.{Bounds}
 use Rattle.path.specs.declared.Candidate.{Candidate}
-use Rattle.path.specs.declared.Candidate.TheVariants as Candidate
 use Rattle.path.specs.declared.PoseAnswer.{PoseAnswer}
-use Rattle.path.specs.declared.PoseAnswer.TheVariants.{At, Refused}
+use Rattle.path.specs.declared.PoseAnswer.TheVariants.{At}
 use Rattle.path.specs.declared.Ranked.{Ranked}
 use Rattle.path.specs.declared.Setup.{Setup}
 

@@ -17,15 +17,12 @@ use Rattle.inverse.specs.Inverse.{pose_at, joints_at}
 use Rattle.inverse.specs.declared.Angles.{Angles}
 use Rattle.inverse.specs.declared.AxisMap.{AxisMap}
 use Rattle.inverse.specs.declared.Solved.{Solved}
-use Rattle.inverse.specs.declared.Solved.TheVariants as Solved
 use Rattle.inverse.specs.declared.SolvedAngle.TheVariants.{Fixed, Free}
 use Rattle.path.specs.Singular.{millionth, nearest_pole}
 use Rattle.path.specs.Unwinding.{unwind_angles, inside, axis_outside}
 use Rattle.path.specs.declared.Bounds.{Bounds}
 use Rattle.path.specs.declared.Fit.{Fit}
-use Rattle.path.specs.declared.Fit.TheVariants as Fit
 use Rattle.path.specs.declared.Nearest.{Nearest}
-use Rattle.path.specs.declared.Nearest.TheVariants as Nearest
 use Rattle.path.specs.declared.PoseAnswer.{PoseAnswer}
 use Rattle.path.specs.declared.PoseAnswer.TheVariants.{At, Refused}
 use Rattle.path.specs.declared.Setup.{Setup}

@@ -1,12 +1,10 @@
 -- One pose of a path, in the order of its checks: 25 for its axis, 16 and 17 for its tip, then the solution, inside the cone or outside, and 26.
 use Rattle.std.specs.Prelude.{Bool, false, not, cond, ◌&&◌, ℕ, eqb, Float}
-use Rattle.refusal.specs.declared.Refusal.{Refusal}
 use Rattle.refusal.specs.Numbers.{not_finite, too_large, leaves_axis, pose_unreachable, angle_too_large}
 use Rattle.geometry.specs.declared.Vec3.{Vec3}
 use Rattle.geometry.specs.Direction.{all_finite, unit_direction, along}
 use Rattle.chain.specs.declared.Joints.{Joints}
 use Rattle.chain.specs.declared.Kinematics.{Kinematics}
-use Rattle.chain.specs.declared.Prepared.{Prepared}
 use Rattle.chain.specs.declared.ToolPose.{ToolPose}
 use Rattle.chain.specs.Check.{within, all_within, longest, most_turned}
 use Rattle.chain.specs.Prepared.{prepared}

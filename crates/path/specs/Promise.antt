@@ -1,5 +1,5 @@
 -- What a path's joints promise, whatever the start and the cone: this is solve_path's part of the price list's statement, and what division stands on.
-use Rattle.std.specs.Prelude.{ℕ, ◌≡◌, true, false, eqb}
+use Rattle.std.specs.Prelude.{◌≡◌, true, false, eqb}
 use Rattle.lists.specs.Each.{Each}
 use Rattle.float.specs.Helpers.{nought}
 use Rattle.chain.specs.declared.Joints.{Joints}

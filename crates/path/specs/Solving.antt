@@ -1,5 +1,5 @@
 -- A path over lent numbers: the checks before the first pose, as one list, then pose after pose, each from the angles before it.
-use Rattle.std.specs.Prelude.{Bool, true, not, cond, ◌&&◌, List, [], ◌∷◌, ℕ, zero, suc, ◌+◌, ◌/◌, ◌%◌, eqb, leb, length, get_or, set, replicate, drop, Float}
+use Rattle.std.specs.Prelude.{Bool, true, not, ◌&&◌, List, [], ◌∷◌, ℕ, suc, ◌+◌, ◌/◌, ◌%◌, eqb, leb, length, get_or, set, replicate, drop, Float}
 use Rattle.std.specs.Float.Ieee as Ieee
 use Rattle.std.specs.Float.{nan, binary64}
 use Rattle.std.specs.Float.Ieee.{of_bits}
@@ -11,7 +11,6 @@ use Rattle.refusal.specs.declared.Refusal.{Refusal}
 use Rattle.refusal.specs.Numbers as Numbers
 use Rattle.geometry.specs.Vector.{vector, cross, norm}
 use Rattle.chain.specs.declared.Checked.{Checked}
-use Rattle.chain.specs.declared.Checked.TheVariants as Checked
 use Rattle.chain.specs.declared.Joints.{Joints}
 use Rattle.chain.specs.declared.Kinematics.{Kinematics}
 use Rattle.chain.specs.declared.ToolPose.{ToolPose}
@@ -22,7 +21,6 @@ use Rattle.inverse.specs.declared.Angles.{Angles}
 use Rattle.path.specs.Exact.{angles_of}
 use Rattle.path.specs.Posing.{set_up, pose_answer}
 use Rattle.path.specs.declared.PoseAnswer.{PoseAnswer}
-use Rattle.path.specs.declared.PoseAnswer.TheVariants as PoseAnswer
 use Rattle.path.specs.declared.Setup.{Setup}
 use Rattle.path.specs.declared.Start.{Start}
 use Rattle.path.specs.declared.Start.TheVariants.{AtZero, From}

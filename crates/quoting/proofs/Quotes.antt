@@ -1,16 +1,16 @@
 -- A machine that halves and keeps no list: it holds the last item of those in which no two divide, and what waits. Its
 -- count is the halving's, and what it has counted so far is what the halving has cost.
-use Prim.Native.Nat.{ℕ, zero, suc, ◌+◌, ◌-◌, ◌*◌, ◌≤◌, ◌<◌}
+use Prim.Native.Nat.{ℕ, zero, suc, ◌+◌, ◌-◌, ◌≤◌, ◌<◌}
 use native.Mathlib.Nat.{sub-zero}
 use native.Mathlib.Numerals.{add-one}
 use native.Mathlib.Omega.{arith}
-use mathlib.Core.Path.{◌≡◌, refl, sym, ap, ◌∙◌, subst}
+use mathlib.Core.Path.{◌≡◌, refl, sym, ap, ◌∙◌}
 use mathlib.Core.Bool.{Bool, true, false}
-use mathlib.Core.Option.{Option, none, some}
-use mathlib.Core.List.{List, [], ◌∷◌, ◌++◌, append_assoc, append-nil}
+use mathlib.Core.Option.{none, some}
+use mathlib.Core.List.{List, [], ◌∷◌, ◌++◌}
 use lib.Seq.{append_snoc}
-use lib.ListN.{length, length-append}
-use Rattle.halving.specs.Halving.{step, halve, Answer, Done, TooMany, onto}
+use lib.ListN.{length}
+use Rattle.halving.specs.Halving.{step, halve, Done, TooMany}
 use Rattle.halving.proofs.Step.{none_cases, past_divides, past_keeps, step_length, step_one, halve_done, halve_many, halve_more}
 use Rattle.quoting.specs.Costing.{tested, newly, stepping, evaluations}
 

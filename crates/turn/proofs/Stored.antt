@@ -1,5 +1,5 @@
 -- Items in two flat lists, one of six numbers each and one of five: what reading and storing one comes to among all of them.
-use Prim.Native.Nat.{ℕ, ◌+◌, ◌*◌, ◌≤◌, ◌<◌}
+use Prim.Native.Nat.{ℕ, ◌*◌, ◌≤◌, ◌<◌}
 use native.Mathlib.Numerals.{towards_suc}
 use native.Mathlib.Omega.{arith}
 use mathlib.Core.Path.{◌≡◌, refl, ap, ◌∙◌}
@@ -9,7 +9,6 @@ use lib.Seq.{sets}
 use lib.Ieee.{Float}
 use Rattle.lists.specs.Rows.{table, Codec}
 use Rattle.lists.proofs.Rows.{length_table, get_or_table, take_table, set_table}
-use Rattle.chain.specs.declared.Joints.{Joints}
 use Rattle.chain.specs.declared.ToolPose.{ToolPose}
 use Rattle.path.specs.Solving.{pose_from, pose_in, joint_numbers, joints_over}
 use Rattle.path.proofs.Walking.{joints_sets}

@@ -1,4 +1,4 @@
-use Rattle.std.proofs.Common.{arith, rules}
+use Rattle.std.proofs.Common.{arith}
 use Rattle.job.proofs.JobBetween.{more}
 use Rattle.job.specs.JobBytes.{chain_part}
 use Rattle.job.proofs.job_bytes.chain_part.Goals as goal

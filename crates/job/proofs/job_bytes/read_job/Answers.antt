@@ -1,4 +1,3 @@
-use Rattle.std.proofs.Common.{rules}
 use Rattle.lists.proofs.Tests.{is, is_after_all, isn't}
 use Rattle.job.proofs.JobWithin.{sized_least, chain_room}
 use Rattle.job.specs.JobBytes.{read_job, job_from, job_fields}

@@ -1,4 +1,3 @@
-use Rattle.std.proofs.Common.{rules}
 use Rattle.job.specs.JobBytes.{rotary_part}
 use Rattle.job.proofs.job_bytes.rotary_part.Goals as goal
 

@@ -1,4 +1,4 @@
-use Rattle.std.proofs.Common.{arith, rules, eq-eqb, ne_eqb}
+use Rattle.std.proofs.Common.{arith, eq-eqb, ne_eqb}
 use Rattle.job.proofs.JobBetween.{two}
 use Rattle.job.specs.JobBytes.{second_in}
 use Rattle.job.proofs.job_bytes.second_in.Goals as goal

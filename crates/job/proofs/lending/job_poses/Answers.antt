@@ -1,4 +1,4 @@
-use Rattle.std.proofs.Common.{arith, rules, eq-eqb, ne_eqb}
+use Rattle.std.proofs.Common.{arith, eq-eqb, ne_eqb}
 use Rattle.lists.proofs.Tests.{is}
 use Rattle.job.specs.JobPoses.{poses_check, job_poses}
 use Rattle.job.proofs.JobWithin.{within}

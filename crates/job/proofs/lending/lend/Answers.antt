@@ -1,4 +1,4 @@
-use Rattle.std.proofs.Common.{rules, le-leb}
+use Rattle.std.proofs.Common.{le-leb}
 use borrow.Author.Tests.{lt-leb}
 use Rattle.job.specs.JobPoses.{room, poses_of}
 use Rattle.job.proofs.Copying.{copied_cleared}

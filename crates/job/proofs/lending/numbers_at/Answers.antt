@@ -1,5 +1,5 @@
-use Rattle.std.proofs.Common.{◌-◌, arith}
-use Rattle.job.proofs.Copying.{Copying, copying_start, copying_step, copying_end}
+use Rattle.std.proofs.Common.{arith}
+use Rattle.job.proofs.Copying.{copying_start, copying_step, copying_end}
 use Rattle.job.proofs.lending.numbers_at.Goals as goal
 
 pub loop-i-init : goal.loop-i-init

@@ -1,5 +1,5 @@
-use Rattle.std.proofs.Common.{◌-◌, arith}
-use Rattle.job.proofs.Copying.{Copying, copying_start, copying_step, copying_end}
+use Rattle.std.proofs.Common.{◌-◌}
+use Rattle.job.proofs.Copying.{Copying}
 use Rattle.job.proofs.lending.numbers_at.Given as goal
 
 abbrev pub invariant-loop-i : goal.invariant-loop-i

@@ -1,4 +1,3 @@
-use Rattle.std.proofs.Common.{rules}
 use Rattle.job.specs.JobBytes.{placed}
 use Rattle.job.proofs.placing.placed.Goals as goal
 

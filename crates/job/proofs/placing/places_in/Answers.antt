@@ -1,4 +1,3 @@
-use Rattle.std.proofs.Common.{rules}
 use Rattle.job.specs.JobBytes.{places_in}
 use Rattle.job.proofs.placing.places_in.Goals as goal
 

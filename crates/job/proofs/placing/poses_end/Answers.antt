@@ -1,4 +1,4 @@
-use Rattle.std.proofs.Common.{refl, rules}
+use Rattle.std.proofs.Common.{refl}
 use Rattle.job.specs.JobBytes.{poses_end}
 use Rattle.job.proofs.placing.poses_end.Goals as goal
 

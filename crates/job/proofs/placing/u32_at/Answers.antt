@@ -1,4 +1,4 @@
-use Rattle.std.proofs.Common.{◌∙◌, rules}
+use Rattle.std.proofs.Common.{◌∙◌}
 use Rattle.job.proofs.JobWithin.{four_is}
 use Rattle.job.proofs.placing.u32_at.Goals as goal
 

@@ -1,5 +1,5 @@
-use Rattle.std.proofs.Common.{◌-◌, length, arith}
-use Rattle.job.proofs.Written.{Putting, putting_start, putting_step, putting_end}
+use Rattle.std.proofs.Common.{arith}
+use Rattle.job.proofs.Written.{putting_start, putting_step, putting_end}
 use Rattle.job.proofs.spelling.put_bytes.Goals as goal
 
 pub loop-i-init : goal.loop-i-init

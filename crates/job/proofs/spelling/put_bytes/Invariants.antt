@@ -1,5 +1,5 @@
-use Rattle.std.proofs.Common.{◌-◌, length, arith}
-use Rattle.job.proofs.Written.{Putting, putting_start, putting_step, putting_end}
+use Rattle.std.proofs.Common.{◌-◌, length}
+use Rattle.job.proofs.Written.{Putting}
 use Rattle.job.proofs.spelling.put_bytes.Given as goal
 
 abbrev pub invariant-loop-i : goal.invariant-loop-i

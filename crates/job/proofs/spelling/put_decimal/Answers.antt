@@ -1,4 +1,4 @@
-use Rattle.std.proofs.Common.{arith, rules}
+use Rattle.std.proofs.Common.{arith}
 use Rattle.job.specs.Spelling.{decimal}
 use Rattle.job.proofs.spelling.put_decimal.Goals as goal
 

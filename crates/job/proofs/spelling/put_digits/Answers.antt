@@ -1,5 +1,5 @@
 use Rattle.std.proofs.Common.{arith}
-use Rattle.job.proofs.Written.{Digits, digit_few, digits_start, digits_step, digits_end}
+use Rattle.job.proofs.Written.{digit_few, digits_start, digits_step, digits_end}
 use Rattle.job.proofs.spelling.put_digits.Goals as goal
 
 pub loop-i-init : goal.loop-i-init

@@ -1,5 +1,4 @@
-use Rattle.std.proofs.Common.{arith}
-use Rattle.job.proofs.Written.{Digits, digit_few, digits_start, digits_step, digits_end}
+use Rattle.job.proofs.Written.{Digits}
 use Rattle.job.proofs.spelling.put_digits.Given as goal
 
 abbrev pub invariant-loop-i : goal.invariant-loop-i

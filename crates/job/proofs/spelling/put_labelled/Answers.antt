@@ -1,5 +1,4 @@
 use Rattle.job.proofs.Written.{put_labelled}
-use Rattle.std.proofs.Common.{rules}
 use Rattle.job.proofs.spelling.put_labelled.Goals as goal
 
 pub returns : goal.returns

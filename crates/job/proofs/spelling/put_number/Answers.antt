@@ -1,4 +1,4 @@
-use Rattle.std.proofs.Common.{◌∙◌, arith, length-set, rules}
+use Rattle.std.proofs.Common.{◌∙◌, arith, length-set}
 use Rattle.job.proofs.Written.{written_number, length_behind}
 use Rattle.job.proofs.spelling.put_number.Goals as goal
 

@@ -1,4 +1,3 @@
-use Rattle.std.proofs.Common.{rules}
 use Rattle.job.proofs.Written.{put_paired}
 use Rattle.job.proofs.spelling.put_paired.Goals as goal
 

@@ -1,5 +1,5 @@
 use Rattle.std.proofs.Common.{arith}
-use Rattle.job.proofs.Written.{width_word, Counting, counting_start, counting_step, counting_end}
+use Rattle.job.proofs.Written.{width_word, counting_start, counting_step, counting_end}
 use Rattle.job.proofs.spelling.width.Goals as goal
 
 pub loop-rest-init : goal.loop-rest-init

@@ -1,5 +1,4 @@
-use Rattle.std.proofs.Common.{arith}
-use Rattle.job.proofs.Written.{width_word, Counting, counting_start, counting_step, counting_end}
+use Rattle.job.proofs.Written.{Counting}
 use Rattle.job.proofs.spelling.width.Given as goal
 
 abbrev pub invariant-loop-rest : goal.invariant-loop-rest

@@ -1,4 +1,3 @@
-use Rattle.std.proofs.Common.{rules}
 use Rattle.job.proofs.telling.answer_text.Goals as goal
 
 pub returns-in-Divided : goal.returns-in-Divided

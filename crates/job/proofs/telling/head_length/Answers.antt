@@ -1,4 +1,3 @@
-use Rattle.std.proofs.Common.{rules}
 use Rattle.job.specs.Telling.{head_length}
 use Rattle.job.proofs.telling.head_length.Goals as goal
 

@@ -1,5 +1,5 @@
-use Rattle.std.proofs.Common.{◌-◌, sym, arith}
-use Rattle.job.proofs.Lines.{Fitting, fitting_start, fitting_step, fitting_none, fitting_end, no_room}
+use Rattle.std.proofs.Common.{sym, arith}
+use Rattle.job.proofs.Lines.{fitting_start, fitting_step, fitting_none, fitting_end, no_room}
 use Rattle.job.proofs.telling.lines_fit.Goals as goal
 
 pub returns-then-room-used : goal.returns-then-room-used

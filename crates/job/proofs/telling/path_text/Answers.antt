@@ -1,5 +1,5 @@
 use Rattle.job.proofs.Texts.{path_short, path_room, path_put}
-use Rattle.std.proofs.Common.{arith, rules}
+use Rattle.std.proofs.Common.{arith}
 use Rattle.job.proofs.Written.{length_put}
 use Rattle.lists.proofs.Tests.{is_after_all, isn't}
 use Rattle.std.proofs.lemmas.Bool.{not_from_true}

@@ -1,6 +1,5 @@
 use Rattle.job.proofs.Texts.{pose_short, pose_put}
 use Rattle.job.proofs.Written.{length_ended}
-use Rattle.std.proofs.Common.{rules}
 use Rattle.job.proofs.telling.pose_text.Goals as goal
 
 pub returns-then-out-number : goal.returns-then-out-number

@@ -1,4 +1,4 @@
-use Rattle.std.proofs.Common.{arith, rules}
+use Rattle.std.proofs.Common.{arith}
 use Rattle.job.proofs.Written.{length_put}
 use Rattle.job.proofs.Texts.{head_half, head_rest, head_end, head_put}
 use Rattle.job.proofs.telling.put_head.Goals as goal

@@ -1,4 +1,3 @@
-use Rattle.std.proofs.Common.{rules}
 use Rattle.job.proofs.Lines.{put_line}
 use Rattle.job.proofs.telling.put_line.Goals as goal
 

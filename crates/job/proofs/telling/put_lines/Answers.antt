@@ -1,5 +1,5 @@
-use Rattle.std.proofs.Common.{◌-◌, arith}
-use Rattle.job.proofs.Lines.{Lining, lining_start, lining_room, lining_step, lining_end}
+use Rattle.std.proofs.Common.{arith}
+use Rattle.job.proofs.Lines.{lining_start, lining_room, lining_step, lining_end}
 use Rattle.job.proofs.telling.put_lines.Goals as goal
 
 pub loop-i-init : goal.loop-i-init

@@ -1,5 +1,5 @@
-use Rattle.std.proofs.Common.{◌-◌, arith}
-use Rattle.job.proofs.Lines.{Lining, lining_start, lining_room, lining_step, lining_end}
+use Rattle.std.proofs.Common.{◌-◌}
+use Rattle.job.proofs.Lines.{Lining}
 use Rattle.job.proofs.telling.put_lines.Given as goal
 
 abbrev pub invariant-loop-i : goal.invariant-loop-i

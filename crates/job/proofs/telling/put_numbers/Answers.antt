@@ -1,4 +1,3 @@
-use Rattle.std.proofs.Common.{rules}
 use Rattle.job.proofs.Written.{length_put}
 use Rattle.job.proofs.Lines.{put_numbers}
 use Rattle.job.proofs.telling.put_numbers.Goals as goal

@@ -1,5 +1,4 @@
 use Rattle.job.proofs.Texts.{refusal_short, refusal_put}
-use Rattle.std.proofs.Common.{rules}
 use Rattle.job.proofs.telling.refusal_text.Goals as goal
 
 pub returns-then-out-number : goal.returns-then-out-number

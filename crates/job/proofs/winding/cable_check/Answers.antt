@@ -1,4 +1,3 @@
-use Rattle.std.proofs.Common.{rules}
 use Rattle.job.specs.Cable.{cable_check}
 use Rattle.job.proofs.winding.cable_check.Goals as goal
 

@@ -1,4 +1,4 @@
-use Rattle.std.proofs.Common.{rules, le-ltb, lt-ltb}
+use Rattle.std.proofs.Common.{le-ltb, lt-ltb}
 use Rattle.job.specs.Cable.{cable_number, cable_of}
 use Rattle.job.proofs.winding.cable_number.Goals as goal
 

@@ -1,4 +1,3 @@
-use Rattle.std.proofs.Common.{rules}
 use Rattle.job.specs.Cable.{cable_sizes}
 use Rattle.job.proofs.winding.cable_sizes.Goals as goal
 

@@ -1,4 +1,4 @@
-use Rattle.std.proofs.Common.{rules, le-ltb, lt-ltb}
+use Rattle.std.proofs.Common.{le-ltb, lt-ltb}
 use Rattle.job.specs.Cable.{larger}
 use Rattle.job.proofs.winding.larger.Goals as goal
 

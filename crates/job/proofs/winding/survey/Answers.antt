@@ -1,5 +1,5 @@
-use Rattle.std.proofs.Common.{◌-◌, arith}
-use Rattle.job.proofs.Surveying.{Surveying, surveying_start, surveying_step, surveying_end}
+use Rattle.std.proofs.Common.{arith}
+use Rattle.job.proofs.Surveying.{surveying_start, surveying_step, surveying_end}
 use Rattle.job.proofs.winding.survey.Goals as goal
 
 pub loop-i-init : goal.loop-i-init

@@ -1,5 +1,5 @@
-use Rattle.std.proofs.Common.{◌-◌, arith}
-use Rattle.job.proofs.Surveying.{Surveying, surveying_start, surveying_step, surveying_end}
+use Rattle.std.proofs.Common.{◌-◌}
+use Rattle.job.proofs.Surveying.{Surveying}
 use Rattle.job.proofs.winding.survey.Given as goal
 
 abbrev pub invariant-loop-i : goal.invariant-loop-i

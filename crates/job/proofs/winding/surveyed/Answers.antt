@@ -1,4 +1,3 @@
-use Rattle.std.proofs.Common.{rules}
 use Rattle.job.specs.Cable.{surveyed, wind_of}
 use Rattle.job.proofs.winding.surveyed.Goals as goal
 

@@ -1,4 +1,3 @@
-use Rattle.std.proofs.Common.{rules}
 use Rattle.job.specs.Cable.{turns_within}
 use Rattle.job.proofs.Turns.{in_range, whole_turns_lem}
 use Rattle.job.proofs.winding.turns_within.Goals as goal

@@ -1,4 +1,3 @@
-use borrow.Author.Rules.{rules}
 use Rattle.path.specs.Closest.{root_before, closer}
 use Rattle.path.specs.Unwinding.{rotary_distance}
 use Rattle.path.proofs.closest.closer.Goals as goal

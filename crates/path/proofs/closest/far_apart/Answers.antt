@@ -1,4 +1,3 @@
-use borrow.Author.Rules.{rules}
 use Rattle.path.specs.Closest.{far_apart}
 use Rattle.path.proofs.closest.far_apart.Goals as goal
 

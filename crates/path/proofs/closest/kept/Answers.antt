@@ -1,4 +1,3 @@
-use borrow.Author.Rules.{rules}
 use Rattle.path.specs.Closest.{kept}
 use Rattle.path.proofs.closest.kept.Goals as goal
 

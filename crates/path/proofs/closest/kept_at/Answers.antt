@@ -1,4 +1,3 @@
-use borrow.Author.Rules.{rules}
 use Rattle.path.specs.Closest.{kept_at}
 use Rattle.path.proofs.closest.kept_at.Goals as goal
 

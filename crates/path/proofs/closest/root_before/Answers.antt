@@ -1,7 +1,5 @@
 use borrow.Author.Rules.{rules}
 use mathlib.Core.Path.{sym}
-use lib.Dec.{T}
-use lib.Ieee.{binary64, fits}
 use Rattle.path.specs.Closest.{root_before}
 use Rattle.path.proofs.FarApart.{root_first, root_last}
 use Rattle.path.proofs.closest.root_before.Goals as goal

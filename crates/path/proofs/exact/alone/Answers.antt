@@ -1,4 +1,3 @@
-use borrow.Author.Rules.{rules}
 use Rattle.path.specs.Exact.{alone}
 use Rattle.path.proofs.exact.alone.Goals as goal
 

@@ -1,4 +1,3 @@
-use borrow.Author.Rules.{rules}
 use Rattle.path.specs.Exact.{both}
 use Rattle.path.proofs.exact.both.Goals as goal
 

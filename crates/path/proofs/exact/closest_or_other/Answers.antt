@@ -1,4 +1,3 @@
-use borrow.Author.Rules.{rules}
 use Rattle.path.specs.Exact.{closest_or_other}
 use Rattle.path.proofs.exact.closest_or_other.Goals as goal
 

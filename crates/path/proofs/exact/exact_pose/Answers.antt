@@ -2,8 +2,7 @@ use borrow.Author.Rules.{rules}
 use mathlib.Core.Path.{sym}
 use Rattle.inverse.specs.Orientation.{orientation_angles}
 use Rattle.path.specs.Exact.{exact_pose}
-use Rattle.geometry.proofs.FitVectors.{FitVec}
-use Rattle.path.proofs.OneEnough.{FitSpin, one_enough}
+use Rattle.path.proofs.OneEnough.{one_enough}
 use Rattle.path.proofs.exact.exact_pose.Goals as goal
 
 pub returns-in-At : goal.returns-in-At

@@ -1,4 +1,3 @@
-use borrow.Author.Rules.{rules}
 use Rattle.path.proofs.exact.of_candidates.Goals as goal
 
 pub returns-in-At-second : goal.returns-in-At-second

@@ -1,4 +1,3 @@
-use borrow.Author.Rules.{rules}
 use Rattle.path.specs.Exact.{of_ranked}
 use Rattle.path.proofs.exact.of_ranked.Goals as goal
 

@@ -1,4 +1,3 @@
-use borrow.Author.Rules.{rules}
 use Rattle.path.specs.Exact.{of_raw}
 use Rattle.path.proofs.exact.of_raw.Goals as goal
 

@@ -1,4 +1,3 @@
-use borrow.Author.Rules.{rules}
 use Rattle.path.specs.Exact.{ranked}
 use Rattle.path.proofs.exact.ranked.Goals as goal
 

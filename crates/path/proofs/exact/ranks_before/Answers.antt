@@ -1,4 +1,3 @@
-use borrow.Author.Rules.{rules}
 use Rattle.path.specs.Exact.{ranks_before}
 use Rattle.path.proofs.exact.ranks_before.Goals as goal
 

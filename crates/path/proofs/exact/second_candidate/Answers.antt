@@ -1,4 +1,3 @@
-use borrow.Author.Rules.{rules}
 use Rattle.path.specs.Exact.{second_candidate}
 use Rattle.path.proofs.exact.second_candidate.Goals as goal
 

@@ -1,4 +1,3 @@
-use borrow.Author.Rules.{rules}
 use Rattle.path.specs.Exact.{unwound}
 use Rattle.path.proofs.exact.unwound.Goals as goal
 

@@ -1,4 +1,3 @@
-use borrow.Author.Rules.{rules}
 use Rattle.path.specs.Locking.{closest_on_circle}
 use Rattle.path.proofs.locking.closest_on_circle.Goals as goal
 

@@ -1,4 +1,3 @@
-use borrow.Author.Rules.{rules}
 use Rattle.path.specs.Locking.{cone_solution}
 use Rattle.path.proofs.locking.cone_solution.Goals as goal
 

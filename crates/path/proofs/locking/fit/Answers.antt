@@ -1,4 +1,3 @@
-use borrow.Author.Rules.{rules}
 use Rattle.path.specs.Locking.{fit}
 use Rattle.path.proofs.locking.fit.Goals as goal
 

@@ -1,4 +1,3 @@
-use borrow.Author.Rules.{rules}
 use Rattle.path.specs.Locking.{fit_first}
 use Rattle.path.proofs.locking.fit_first.Goals as goal
 

@@ -1,4 +1,3 @@
-use borrow.Author.Rules.{rules}
 use Rattle.path.specs.Locking.{fit_second}
 use Rattle.path.proofs.locking.fit_second.Goals as goal
 

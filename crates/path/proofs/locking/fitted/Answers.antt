@@ -1,4 +1,3 @@
-use borrow.Author.Rules.{rules}
 use Rattle.path.proofs.locking.fitted.Goals as goal
 
 pub returns-in-Angle : goal.returns-in-Angle

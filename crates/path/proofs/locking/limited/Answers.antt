@@ -1,4 +1,3 @@
-use borrow.Author.Rules.{rules}
 use Rattle.path.proofs.locking.limited.Goals as goal
 
 pub returns-in_default : goal.returns-in_default

@@ -1,4 +1,3 @@
-use borrow.Author.Rules.{rules}
 use Rattle.path.specs.Locking.{locked_angles}
 use Rattle.path.proofs.locking.locked_angles.Goals as goal
 

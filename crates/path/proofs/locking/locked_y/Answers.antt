@@ -1,4 +1,3 @@
-use borrow.Author.Rules.{rules}
 use Rattle.path.specs.Locking.{locked_y}
 use Rattle.path.proofs.locking.locked_y.Goals as goal
 

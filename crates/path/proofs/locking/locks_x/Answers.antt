@@ -1,4 +1,3 @@
-use borrow.Author.Rules.{rules}
 use Rattle.path.specs.Locking.{locks_x}
 use Rattle.path.proofs.locking.locks_x.Goals as goal
 

@@ -1,4 +1,3 @@
-use borrow.Author.Rules.{rules}
 use Rattle.path.specs.Locking.{on_circle}
 use Rattle.path.proofs.locking.on_circle.Goals as goal
 

@@ -1,4 +1,3 @@
-use borrow.Author.Rules.{rules}
 use Rattle.float.specs.Helpers.{nought}
 use Rattle.inverse.specs.Inverse.{pose_at}
 use Rattle.inverse.proofs.FromTurns.{pose_from_lem, joints_from_lem}

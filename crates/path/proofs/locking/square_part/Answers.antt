@@ -1,4 +1,3 @@
-use borrow.Author.Rules.{rules}
 use Rattle.path.specs.Locking.{square_part}
 use Rattle.path.proofs.locking.square_part.Goals as goal
 

@@ -1,4 +1,3 @@
-use borrow.Author.Rules.{rules}
 use Rattle.path.specs.Locking.{strays}
 use Rattle.path.proofs.locking.strays.Goals as goal
 

@@ -1,4 +1,3 @@
-use borrow.Author.Rules.{rules}
 use Rattle.path.specs.Locking.{within_limits}
 use Rattle.path.proofs.locking.within_limits.Goals as goal
 

@@ -1,4 +1,3 @@
-use borrow.Author.Rules.{rules}
 use mathlib.Core.Path.{refl}
 use Rattle.path.specs.Posing.{bounds_of}
 use Rattle.path.proofs.posing.bounds_of.Goals as goal

@@ -1,4 +1,3 @@
-use borrow.Author.Rules.{rules}
 use Rattle.path.specs.Posing.{pose_answer}
 use Rattle.path.proofs.posing.pose_answer.Goals as goal
 

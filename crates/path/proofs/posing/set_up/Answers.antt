@@ -1,4 +1,3 @@
-use borrow.Author.Rules.{rules}
 use Rattle.path.specs.Posing.{set_up}
 use Rattle.path.proofs.posing.set_up.Goals as goal
 

@@ -1,4 +1,3 @@
-use borrow.Author.Rules.{rules}
 use Rattle.path.specs.Posing.{solved_pose}
 use Rattle.path.proofs.posing.solved_pose.Goals as goal
 

@@ -1,4 +1,3 @@
-use borrow.Author.Rules.{rules}
 use borrow.Author.Tests.{not-false}
 use Rattle.path.specs.Posing.{solved_tip}
 use Rattle.std.proofs.lemmas.Bool.{not_from_true}

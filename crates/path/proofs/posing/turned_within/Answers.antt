@@ -1,4 +1,3 @@
-use borrow.Author.Rules.{rules}
 use Rattle.path.specs.Posing.{turned_within}
 use Rattle.path.proofs.posing.turned_within.Goals as goal
 

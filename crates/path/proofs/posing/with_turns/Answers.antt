@@ -1,4 +1,3 @@
-use borrow.Author.Rules.{rules}
 use Rattle.path.proofs.posing.with_turns.Goals as goal
 
 pub returns-in_default : goal.returns-in_default

@@ -1,4 +1,3 @@
-use borrow.Author.Rules.{rules}
 use Rattle.path.specs.Singular.{frame_of_two}
 use Rattle.path.proofs.singular.frame_of_two.Goals as goal
 

@@ -1,4 +1,3 @@
-use borrow.Author.Rules.{rules}
 use Rattle.path.specs.Singular.{frame_on}
 use Rattle.path.proofs.singular.frame_on.Goals as goal
 

@@ -1,4 +1,3 @@
-use borrow.Author.Rules.{rules}
 use Rattle.path.specs.Singular.{in_sense}
 use Rattle.path.proofs.singular.in_sense.Goals as goal
 

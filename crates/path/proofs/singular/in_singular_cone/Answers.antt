@@ -1,4 +1,3 @@
-use borrow.Author.Rules.{rules}
 use mathlib.Core.Path.{sym}
 use Rattle.path.specs.Singular.{in_singular_cone}
 use Rattle.path.proofs.FarFromPole.{well_outside_lem}

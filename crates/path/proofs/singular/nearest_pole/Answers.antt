@@ -1,4 +1,3 @@
-use borrow.Author.Rules.{rules}
 use Rattle.path.specs.Singular.{nearest_pole}
 use Rattle.path.proofs.singular.nearest_pole.Goals as goal
 

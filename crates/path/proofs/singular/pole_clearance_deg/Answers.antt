@@ -1,4 +1,3 @@
-use borrow.Author.Rules.{rules}
 use Rattle.path.specs.Singular.{pole_clearance_deg}
 use Rattle.path.proofs.singular.pole_clearance_deg.Goals as goal
 

@@ -1,4 +1,3 @@
-use borrow.Author.Rules.{rules}
 use Rattle.path.specs.Singular.{singular_frame}
 use Rattle.path.proofs.singular.singular_frame.Goals as goal
 

@@ -1,4 +1,3 @@
-use borrow.Author.Rules.{rules}
 use Rattle.path.specs.Singular.{well_outside}
 use Rattle.path.proofs.singular.well_outside.Goals as goal
 

@@ -1,8 +1,6 @@
-use Prim.Native.Nat.{◌-◌}
 use native.Mathlib.Omega.{arith}
-use lib.ListN.{length, length-set}
-use Rattle.float.specs.Helpers.{nought}
-use Rattle.lists.proofs.Padding.{Clearing, clearing_start, clearing_step, clearing_end}
+use lib.ListN.{length-set}
+use Rattle.lists.proofs.Padding.{clearing_start, clearing_step, clearing_end}
 use Rattle.path.proofs.solving.clear_from.Goals as goal
 
 pub loop-i-init : goal.loop-i-init

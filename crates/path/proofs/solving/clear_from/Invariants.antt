@@ -1,8 +1,7 @@
 use Prim.Native.Nat.{◌-◌}
-use native.Mathlib.Omega.{arith}
-use lib.ListN.{length, length-set}
+use lib.ListN.{length}
 use Rattle.float.specs.Helpers.{nought}
-use Rattle.lists.proofs.Padding.{Clearing, clearing_start, clearing_step, clearing_end}
+use Rattle.lists.proofs.Padding.{Clearing}
 use Rattle.path.proofs.solving.clear_from.Given as goal
 
 abbrev pub invariant-loop-i : goal.invariant-loop-i

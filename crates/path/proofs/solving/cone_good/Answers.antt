@@ -1,4 +1,3 @@
-use borrow.Author.Rules.{rules}
 use Rattle.path.specs.Solving.{cone_good}
 use Rattle.path.proofs.solving.cone_good.Goals as goal
 

@@ -1,4 +1,3 @@
-use borrow.Author.Rules.{rules}
 use borrow.Author.Tests.{eq-eqb, ne_eqb}
 use Rattle.chain.specs.Prepared.{unit_axis}
 use Rattle.path.specs.Solving.{parallel}

@@ -1,4 +1,3 @@
-use borrow.Author.Rules.{rules}
 use Rattle.path.specs.Solving.{path_chain}
 use Rattle.path.proofs.solving.path_chain.Goals as goal
 

@@ -1,4 +1,3 @@
-use borrow.Author.Rules.{rules}
 use Rattle.path.specs.Solving.{path_sizes}
 use Rattle.path.proofs.solving.path_sizes.Goals as goal
 

@@ -1,4 +1,3 @@
-use borrow.Author.Rules.{rules}
 use native.Mathlib.Nat.{add-zero}
 use lib.Seq.{get_or-drop}
 use Rattle.path.specs.Solving.{pose_in}

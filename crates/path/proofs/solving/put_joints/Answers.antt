@@ -1,6 +1,5 @@
 use native.Mathlib.Omega.{arith}
 use lib.ListN.{length-set}
-use borrow.Author.Rules.{rules}
 use Rattle.path.specs.Solving.{joints_over}
 use mathlib.Core.Path.{refl}
 use Rattle.path.proofs.solving.put_joints.Goals as goal

@@ -1,4 +1,3 @@
-use borrow.Author.Rules.{rules}
 use Rattle.path.specs.Solving.{solve_check}
 use Rattle.path.proofs.solving.solve_check.Goals as goal
 

@@ -1,4 +1,3 @@
-use borrow.Author.Rules.{rules}
 use Rattle.path.specs.Solving.{solve_checked}
 use Rattle.path.proofs.Room.{set_up_bounded}
 use Rattle.path.proofs.solving.solve_checked.Goals as goal

@@ -2,7 +2,6 @@ use borrow.Author.Rules.{rules}
 use lib.ListN.{length}
 use Rattle.path.specs.Solving.{solve_path, path_over}
 use Rattle.path.proofs.Promises.{path_served}
-use Rattle.chain.proofs.UnitAxes.{FitAxes}
 use Rattle.path.proofs.Room.{room_passed, chain_bounded}
 use Rattle.path.proofs.solving.solve_path.Goals as goal
 

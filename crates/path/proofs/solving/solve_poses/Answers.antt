@@ -1,8 +1,6 @@
-use Prim.Native.Nat.{◌-◌}
 use native.Mathlib.Omega.{arith}
 use mathlib.Core.Path.{◌∙◌, sym}
-use borrow.Author.Rules.{rules}
-use Rattle.path.proofs.Walking.{Walking, walking_start, walking_step, walking_refused, walking_end}
+use Rattle.path.proofs.Walking.{walking_start, walking_step, walking_refused, walking_end}
 use Rattle.path.proofs.solving.solve_poses.Goals as goal
 
 pub loop-i-init : goal.loop-i-init

@@ -1,4 +1,3 @@
-use borrow.Author.Rules.{rules}
 use Rattle.path.proofs.solving.start_angles.Goals as goal
 
 pub returns-in-AtZero : goal.returns-in-AtZero

@@ -1,4 +1,3 @@
-use borrow.Author.Rules.{rules}
 use Rattle.path.specs.Unwinding.{axis_outside}
 use Rattle.path.proofs.unwinding.axis_outside.Goals as goal
 

@@ -1,4 +1,3 @@
-use borrow.Author.Rules.{rules}
 use Rattle.path.specs.Unwinding.{by_turns}
 use Rattle.path.proofs.unwinding.by_turns.Goals as goal
 

@@ -1,4 +1,3 @@
-use borrow.Author.Rules.{rules}
 use Rattle.path.specs.Unwinding.{different_branch}
 use Rattle.path.proofs.unwinding.different_branch.Goals as goal
 

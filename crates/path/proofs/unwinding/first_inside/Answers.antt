@@ -1,4 +1,3 @@
-use borrow.Author.Rules.{rules}
 use Rattle.path.specs.Unwinding.{first_inside}
 use Rattle.path.proofs.unwinding.first_inside.Goals as goal
 

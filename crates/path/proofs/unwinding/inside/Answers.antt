@@ -1,4 +1,3 @@
-use borrow.Author.Rules.{rules}
 use Rattle.path.specs.Unwinding.{inside}
 use Rattle.path.proofs.unwinding.inside.Goals as goal
 

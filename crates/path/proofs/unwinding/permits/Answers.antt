@@ -1,4 +1,3 @@
-use borrow.Author.Rules.{rules}
 use Rattle.path.proofs.unwinding.permits.Goals as goal
 
 pub returns-in-Within : goal.returns-in-Within

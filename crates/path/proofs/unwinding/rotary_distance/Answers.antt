@@ -1,4 +1,3 @@
-use borrow.Author.Rules.{rules}
 use Rattle.path.specs.Unwinding.{rotary_distance}
 use Rattle.path.proofs.unwinding.rotary_distance.Goals as goal
 

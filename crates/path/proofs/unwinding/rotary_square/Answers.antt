@@ -1,4 +1,3 @@
-use borrow.Author.Rules.{rules}
 use Rattle.path.specs.Unwinding.{rotary_square, squared}
 use Rattle.path.proofs.unwinding.rotary_square.Goals as goal
 

@@ -1,4 +1,3 @@
-use borrow.Author.Rules.{rules}
 use Rattle.path.specs.Unwinding.{second_inside}
 use Rattle.path.proofs.unwinding.second_inside.Goals as goal
 

@@ -1,4 +1,3 @@
-use borrow.Author.Rules.{rules}
 use Rattle.path.specs.Unwinding.{split}
 use Rattle.path.proofs.unwinding.split.Goals as goal
 

@@ -1,4 +1,3 @@
-use borrow.Author.Rules.{rules}
 use Rattle.path.specs.Unwinding.{unwind_angles}
 use Rattle.path.proofs.unwinding.unwind_angles.Goals as goal
 

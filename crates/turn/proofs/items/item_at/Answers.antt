@@ -1,4 +1,3 @@
-use borrow.Author.Rules.{rules}
 use Rattle.turn.specs.Items.{item_at}
 use Rattle.turn.proofs.items.item_at.Goals as goal
 

@@ -1,7 +1,5 @@
-use borrow.Author.Rules.{rules}
 use native.Mathlib.Nat.{add-zero}
 use lib.Seq.{get_or-drop}
-use mathlib.Core.Path.{refl}
 use Rattle.turn.specs.Items.{joints_in}
 use Rattle.turn.proofs.items.joints_in.Goals as goal
 

@@ -1,5 +1,4 @@
 use Rattle.turn.specs.Items.{poses_with, joints_with}
-use borrow.Author.Rules.{rules}
 use Rattle.turn.proofs.items.put_item.Goals as goal
 
 pub returns : goal.returns

@@ -1,4 +1,3 @@
-use borrow.Author.Rules.{rules}
 use borrow.Author.Tests.{le-leb, lt-leb}
 use Rattle.turn.specs.Items.{space_in}
 use Rattle.turn.proofs.items.space_in.Goals as goal

@@ -1,6 +1,5 @@
 use native.Mathlib.Omega.{arith}
 use Rattle.turn.proofs.Turned.{turned_keep, turned_divide}
-use borrow.Author.Rules.{rules}
 use Rattle.turn.proofs.turning.advance.Goals as goal
 
 pub right_axis-axis-requires : goal.right_axis-axis-requires

@@ -1,4 +1,3 @@
-use borrow.Author.Rules.{rules}
 use Rattle.turn.specs.Turning.{axis_at}
 use Rattle.turn.proofs.turning.axis_at.Goals as goal
 

@@ -1,5 +1,4 @@
 use borrow.Author.Tests.{le-leb, lt-leb}
-use borrow.Author.Rules.{rules}
 use Rattle.turn.specs.Turning.{end_after}
 use Rattle.turn.proofs.turning.end_after.Goals as goal
 

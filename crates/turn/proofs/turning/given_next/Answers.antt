@@ -1,4 +1,3 @@
-use borrow.Author.Rules.{rules}
 use mathlib.Core.Path.{refl}
 use Rattle.turn.specs.Turning.{given_next}
 use Rattle.turn.proofs.turning.given_next.Goals as goal

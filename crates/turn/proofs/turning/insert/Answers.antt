@@ -1,5 +1,4 @@
 use borrow.Author.Tests.{eq-eqb, ne_eqb}
-use borrow.Author.Rules.{rules}
 use Rattle.turn.specs.Turning.{inserting, if_inserted, before}
 use Rattle.turn.proofs.turning.insert.Goals as goal
 

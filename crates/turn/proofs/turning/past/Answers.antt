@@ -1,6 +1,5 @@
 use native.Mathlib.Omega.{arith}
 use Rattle.turn.proofs.Turned.{given_there}
-use borrow.Author.Rules.{rules}
 use Rattle.turn.specs.Turning.{past}
 use Rattle.turn.proofs.turning.past.Goals as goal
 

@@ -1,4 +1,3 @@
-use borrow.Author.Rules.{rules}
 use Rattle.turn.specs.Turning.{past_given}
 use Rattle.turn.proofs.turning.past_given.Goals as goal
 

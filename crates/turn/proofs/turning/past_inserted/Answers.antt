@@ -1,4 +1,3 @@
-use borrow.Author.Rules.{rules}
 use mathlib.Core.Path.{refl}
 use Rattle.turn.specs.Turning.{past_inserted}
 use Rattle.turn.proofs.turning.past_inserted.Goals as goal

@@ -1,4 +1,3 @@
-use borrow.Author.Rules.{rules}
 use Rattle.turn.specs.Turning.{axis_right}
 use Rattle.turn.proofs.turning.right_axis.Goals as goal
 

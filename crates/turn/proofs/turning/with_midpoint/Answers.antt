@@ -1,4 +1,3 @@
-use borrow.Author.Rules.{rules}
 use mathlib.Core.Path.{refl}
 use Rattle.turn.specs.Turning.{with_midpoint, before}
 use Rattle.turn.proofs.turning.with_midpoint.Goals as goal
