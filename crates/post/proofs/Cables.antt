@@ -36,7 +36,6 @@ use Rattle.divide.proofs.PriceLent.{items_left}
 use Rattle.divide.proofs.PriceSound.{sizes_finite}
 use Rattle.job.specs.declared.Job.{Job}
 use Rattle.job.specs.declared.JobRead.{JobRead}
-use Rattle.job.specs.declared.JobRead.TheVariants as JobRead
 use Rattle.job.specs.JobBytes.{read_job}
 use Rattle.job.specs.declared.Cable.TheVariants as Cable
 use Rattle.job.specs.Cable.{cable_number}

@@ -8,7 +8,6 @@ use borrow.Author.Tests.{le-leb}
 use lib.Ieee.{Float}
 use lib.ListN.{length, take}
 use lib.Seq.{take_all}
-use Rattle.lists.specs.Padding.{padded}
 use Rattle.lists.proofs.Padding.{take_padded}
 use Rattle.float.specs.Helpers.{nought}
 use Rattle.path.specs.declared.Start.TheVariants.{AtZero}

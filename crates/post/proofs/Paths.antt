@@ -9,13 +9,11 @@ use lib.Dec.{leb}
 use lib.Ieee.{Float}
 use lib.ListN.{length, take, length-map}
 use lib.Seq.{take_all}
-use Rattle.lists.specs.Padding.{padded}
-use Rattle.lists.specs.Rows.{rows, flat}
+use Rattle.lists.specs.Rows.{flat}
 use Rattle.lists.proofs.Padding.{take_padded}
 use Rattle.lists.proofs.Rows.{rows_flat, length_flat}
 use Rattle.float.specs.Helpers.{nought}
 use Rattle.chain.specs.declared.Checked.{Checked}
-use Rattle.chain.specs.declared.Checked.TheVariants as Checked
 use Rattle.chain.specs.declared.Joints.{Joints}
 use Rattle.chain.specs.declared.Kinematics.{Kinematics}
 use Rattle.chain.specs.declared.Prepared.{Prepared}

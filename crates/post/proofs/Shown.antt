@@ -15,7 +15,6 @@ use Rattle.lists.proofs.Fold.{pushed}
 use Rattle.refusal.specs.declared.Refusal.{Refusal}
 use Rattle.chain.specs.declared.Joints.{Joints}
 use Rattle.job.specs.declared.Ended.{Ended}
-use Rattle.job.specs.declared.Ended.TheVariants as Ended
 use Rattle.job.specs.declared.Figures.{Figures}
 use Rattle.job.specs.Cable.{joint_sets}
 use Rattle.job.specs.Spelling.{written, width}

@@ -9,18 +9,13 @@ use Rattle.path.specs.declared.Start.TheVariants.{AtZero}
 use Rattle.path.specs.Solving.{joint_numbers}
 use Rattle.halving.specs.Halving.{Done, items}
 use Rattle.machine.specs.declared.Divided.{Divided}
-use Rattle.machine.specs.declared.Divided.TheVariants as Divided
 use Rattle.divide.specs.declared.Division.{Division}
-use Rattle.divide.specs.declared.Division.TheVariants as Division
 use Rattle.middle.specs.declared.Item.{Item}
 use Rattle.divide.specs.Subdividing.{DivisionAnswer, Kept, AtPose, Cleared, Halved, division_in, solve_and_divide}
 use Rattle.job.specs.declared.Cable.{Cable}
-use Rattle.job.specs.declared.Cable.TheVariants as Cable
 use Rattle.job.specs.declared.Ended.{Ended}
-use Rattle.job.specs.declared.Ended.TheVariants as Ended
 use Rattle.job.specs.declared.Job.{Job}
 use Rattle.job.specs.declared.JobRead.{JobRead}
-use Rattle.job.specs.declared.JobRead.TheVariants as JobRead
 use Rattle.job.specs.JobBytes.{read_job}
 use Rattle.job.specs.JobPoses.{poses_of}
 use Rattle.job.specs.Cable.{cable_number}

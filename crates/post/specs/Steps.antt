@@ -3,11 +3,9 @@ use Rattle.std.specs.Prelude.{ℕ, ◌+◌, ◌≤◌, ◌≡◌, List, Float}
 use Rattle.chain.specs.declared.Kinematics.{Kinematics}
 use Rattle.machine.specs.declared.Divided.TheVariants as Divided
 use Rattle.divide.specs.declared.Division.{Division}
-use Rattle.divide.specs.declared.Division.TheVariants as Division
 use Rattle.job.specs.declared.Job.{Job}
 use Rattle.job.specs.declared.JobRead.TheVariants as JobRead
 use Rattle.job.specs.declared.Told.{Told}
-use Rattle.job.specs.declared.Told.TheVariants as Told
 use Rattle.job.specs.JobBytes.{read_job}
 use Rattle.job.specs.Cable.{joint_sets}
 use Rattle.job.specs.Telling.{text_of}
