@@ -9,7 +9,6 @@ use lib.Dec.{leb}
 use lib.Ieee.{Float}
 use lib.ListN.{length}
 use Rattle.chain.specs.declared.Checked.{Checked}
-use Rattle.chain.specs.declared.Checked.TheVariants as Checked
 use Rattle.chain.specs.declared.Kinematics.{Kinematics}
 use Rattle.chain.specs.Prepared.{prepared}
 use Rattle.halving.specs.Halving.{Answer, Done, TooMany, NoSpace, halve}

@@ -16,7 +16,6 @@ use Rattle.lists.proofs.Rows.{length_flat}
 use Rattle.refusal.specs.declared.Refusal.{Refusal}
 use Rattle.refusal.specs.Numbers.{refusal, lengths_differ}
 use Rattle.chain.specs.declared.Checked.{Checked}
-use Rattle.chain.specs.declared.Checked.TheVariants as Checked
 use Rattle.chain.specs.declared.Joints.{Joints}
 use Rattle.chain.specs.declared.Kinematics.{Kinematics}
 use Rattle.chain.specs.Check.{demand, then}
@@ -29,11 +28,9 @@ use Rattle.path.proofs.Along.{along_long, refused_pose, solved_along, along_one,
 use Rattle.path.specs.Closest.{bounded}
 use Rattle.path.proofs.Room.{room_passed, chain_bounded}
 use Rattle.divide.specs.declared.Division.{Division}
-use Rattle.divide.specs.declared.Division.TheVariants as Division
 use Rattle.divide.specs.declared.Division.TheVariants.{Refused}
 use Rattle.middle.specs.declared.Tolerances.{Tolerances}
 use Rattle.divide.specs.Checking.{division_check}
-use Rattle.machine.specs.Dividing.{poses_over, joints_over}
 use Rattle.divide.specs.Subdividing.{DivisionAnswer, division_in, poses_left, joints_left, given, clearing, subdivide_path, three_whole, both_check, solved_path, found_in, solve_and_divide}
 use Rattle.turn.specs.Items.{space_in}
 use Rattle.divide.specs.Subdividing as Ways

@@ -1,9 +1,9 @@
 -- The checks of a division, as the program makes them: of the joints among a longer list of lent numbers.
 use Prim.Native.Nat.{ℕ, ◌*◌, ◌/◌, ◌≤◌}
 use native.Mathlib.Omega.{arith}
-use mathlib.Core.Path.{◌≡◌, refl, sym, ap, ◌∙◌}
-use mathlib.Core.Bool.{Bool, true, false, ◌&&◌}
-use mathlib.Core.List.{List, ◌++◌}
+use mathlib.Core.Path.{◌≡◌, sym, ap, ◌∙◌}
+use mathlib.Core.Bool.{Bool, true, false}
+use mathlib.Core.List.{List}
 use lib.ListN.{length, take, drop, take-append-drop}
 use lib.Seq.{take_all, length-take-le}
 use lib.Ieee.{Float}
@@ -11,7 +11,6 @@ use lib.Ieee.Scale.{finite}
 use Rattle.lists.specs.Rows.{rows}
 use Rattle.lists.specs.Search.{all}
 use Rattle.lists.proofs.Rows.{rows_append_le}
-use Rattle.chain.specs.declared.Joints.{Joints}
 use Rattle.turn.specs.Items.{joints_from}
 use Rattle.divide.specs.Checking.{all_finite, joint_sets_in}
 use Rattle.turn.proofs.Stored.{joints_codec}

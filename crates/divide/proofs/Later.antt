@@ -21,7 +21,6 @@ use Rattle.path.specs.Solving.{poses_in, joint_numbers, whole_records}
 use Rattle.geometry.proofs.FitVectors.{FitVec}
 use Rattle.halving.specs.Halving.{Answer}
 use Rattle.halving.specs.Halving as Halving
-use Rattle.machine.specs.declared.Divided.TheVariants.{Done}
 use Rattle.machine.specs.Dividing.{divided_in, poses_over, joints_over}
 use Rattle.middle.specs.declared.Item.{Item}
 use Rattle.middle.specs.declared.Tolerances.{Tolerances}

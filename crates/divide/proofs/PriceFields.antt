@@ -5,11 +5,10 @@
 use Prim.Native.Nat.{ℕ, ◌+◌, ◌*◌, ◌/◌, ◌≤◌}
 use native.Mathlib.Omega.{arith}
 use mathlib.Core.Path.{◌≡◌, refl, sym, ap, ◌∙◌, subst}
-use mathlib.Core.Bool.{Bool, true, false, cond, false≢true}
+use mathlib.Core.Bool.{Bool, true, false, cond}
 use mathlib.Core.List.{List, [], ◌∷◌, ◌++◌, Sublistᴰ}
 use lib.Ieee as Ieee
 use lib.Ieee.{Float}
-use lib.Ieee.Scale.{finite}
 use lib.ListN.{length, take, replicate}
 use Rattle.float.specs.Helpers.{nought, size_of}
 use Rattle.geometry.specs.Vector.{minus}
@@ -37,11 +36,10 @@ use Rattle.middle.specs.Testing.{least, midpoint, segment_within, divides}
 use Rattle.turn.specs.Items.{joints_from, item, items_in, space_in}
 use Rattle.turn.proofs.Stored.{joints_codec}
 use Rattle.divide.specs.declared.Division.{Division}
-use Rattle.divide.specs.declared.Division.TheVariants as Division
 use Rattle.divide.specs.declared.Division.TheVariants.{Refused, Ended}
 use Rattle.divide.specs.Checking.{tip_within, division_check}
 use Rattle.divide.specs.Subdividing.{Halved, given, three_whole, subdivide_path, solved_path, solve_and_divide}
-use Rattle.divide.specs.Looser.{NotBelow, NeverDearer, path_length, Later}
+use Rattle.divide.specs.Looser.{NotBelow, NeverDearer, Later}
 use Rattle.divide.specs.Price.{AllClose, Insertion, Checks, Price, SolvedAndDivided}
 
 -- ---- every field

@@ -1,8 +1,7 @@
 -- Demand 3 of the two lent outputs: what the halving answers stands at their front, and what they hold besides is +0.0.
-use Prim.Native.Nat.{ℕ, suc, ◌+◌, ◌-◌, ◌*◌, ◌≤◌, ◌<◌}
+use Prim.Native.Nat.{ℕ, ◌+◌, ◌-◌, ◌*◌, ◌≤◌, ◌<◌}
 use native.Mathlib.Omega.{arith}
 use mathlib.Core.Path.{◌≡◌, refl, sym, ap, ◌∙◌, subst}
-use mathlib.Core.Logic.{◌⊎◌, inl, inr, ◌↔◌}
 use mathlib.Core.Bool.{Bool, true, false, false≢true}
 use mathlib.Core.List.{List, [], ◌∷◌, ◌++◌, map}
 use lib.Ieee.{Float}
@@ -20,7 +19,6 @@ use Rattle.chain.specs.declared.ToolPose.{ToolPose}
 use Rattle.chain.specs.Prepared.{prepared}
 use Rattle.path.specs.Solving.{pose_from, joint_numbers}
 use Rattle.refusal.specs.declared.Refusal.{Refusal}
-use Rattle.machine.specs.declared.Divided.{Divided}
 use Rattle.machine.specs.declared.Divided.TheVariants.{Done, TooMany, NoSpace}
 use Rattle.divide.specs.declared.Division.{Division}
 use Rattle.divide.specs.declared.Division.TheVariants.{Refused, AtPose, Ended}

@@ -21,7 +21,6 @@ use Rattle.path.specs.Solving.{Along, AtPose, Kept, joint_numbers, solve_path}
 use Rattle.halving.specs.Halving.{step, Steps, Needs}
 use Rattle.machine.specs.declared.Divided.TheVariants.{Done, TooMany, NoSpace}
 use Rattle.divide.specs.declared.Division.{Division}
-use Rattle.divide.specs.declared.Division.TheVariants as Division
 use Rattle.divide.specs.declared.Division.TheVariants.{Refused, Ended}
 use Rattle.middle.specs.declared.Item.{Item}
 use Rattle.middle.specs.declared.Tolerances.{Tolerances}

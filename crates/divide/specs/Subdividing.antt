@@ -5,7 +5,6 @@ use Rattle.lists.specs.Rows.{flat}
 use Rattle.refusal.specs.declared.Refusal.{Refusal}
 use Rattle.refusal.specs.Numbers.{refusal, lengths_differ}
 use Rattle.chain.specs.declared.Checked.{Checked}
-use Rattle.chain.specs.declared.Checked.TheVariants as Checked
 use Rattle.chain.specs.declared.Joints.{Joints}
 use Rattle.chain.specs.declared.Kinematics.{Kinematics}
 use Rattle.chain.specs.declared.Prepared.{Prepared}
@@ -16,7 +15,6 @@ use Rattle.path.specs.Solving.{PathAnswer, Along, joint_numbers, whole_records, 
 use Rattle.path.specs.Solving as Path
 use Rattle.halving.specs.Halving.{Answer, Done, NoSpace}
 use Rattle.divide.specs.declared.Division.{Division}
-use Rattle.divide.specs.declared.Division.TheVariants as Division
 use Rattle.middle.specs.declared.Item.{Item}
 use Rattle.middle.specs.declared.Tolerances.{Tolerances}
 use Rattle.turn.specs.Items.{items_in, space_in}

@@ -4,7 +4,7 @@ use native.Mathlib.Omega.{arith}
 use mathlib.Core.Path.{◌≡◌, refl, sym, ap, ◌∙◌}
 use mathlib.Core.Bool.{Bool, true, false}
 use mathlib.Core.Logic.{◌⊎◌, inl, inr}
-use mathlib.Core.List.{List, [], ◌∷◌, ◌++◌, map}
+use mathlib.Core.List.{List, [], ◌∷◌, map}
 use borrow.Author.Tests.{eqb-true, eqb-false}
 use lib.Dec.{eqb}
 use lib.ListN.{length, take, drop, get_or, set, length-set}
@@ -15,9 +15,8 @@ use Rattle.lists.specs.Rows.{rows, flat, Codec}
 use Rattle.lists.proofs.Rows.{set_rows, rows_flat, flat_rows, length_flat}
 use Rattle.float.proofs.Units.{le_or_lt}
 use Rattle.chain.specs.declared.Checked.{Checked}
-use Rattle.chain.specs.declared.Checked.TheVariants as Checked
 use Rattle.chain.specs.declared.Joints.{Joints}
-use Rattle.path.specs.Solving.{joint_numbers, joints_over}
+use Rattle.path.specs.Solving.{joints_over}
 use Rattle.path.proofs.Walking.{joints_sets}
 use Rattle.turn.specs.Items.{joints_from, joints_in}
 use Rattle.turn.proofs.Stored.{joints_codec}

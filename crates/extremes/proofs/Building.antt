@@ -5,7 +5,7 @@ use native.Mathlib.Omega.{arith}
 use mathlib.Core.Path.{◌≡◌, refl, sym, ap, ◌∙◌}
 use mathlib.Core.List.{List, [], ◌∷◌, ◌++◌, map}
 use lib.ListN.{length, take, drop, get_or, set}
-use lib.Seq.{sets, length-sets, take_all, take-suc, drop-cons}
+use lib.Seq.{length-sets, take_all, take-suc, drop-cons}
 use lib.Ieee.{Float}
 use Rattle.lists.specs.Fold.{fold}
 use Rattle.lists.specs.Rows.{rows, flat}

@@ -9,7 +9,7 @@ use lib.Dec.{ltb}
 use lib.ListN.{length, take, drop, get_or, length-drop, length-take, length-map, get_or-map}
 use lib.Seq.{get_or-take, get_or-drop, take_all}
 use lib.Ieee.{Float}
-use Rattle.lists.specs.Rows.{rows, flat, Codec}
+use Rattle.lists.specs.Rows.{flat, Codec}
 use Rattle.lists.proofs.Rows.{length_rows, get_or_rows, rows_flat, length_flat}
 use Rattle.chain.specs.declared.Joints.{Joints}
 use Rattle.turn.specs.Items.{joints_from, joints_in}

@@ -2,12 +2,10 @@
 use Rattle.std.specs.Prelude.{true, cond, List, ◌≡◌, ℕ, ◌*◌, ◌/◌, ◌<◌, ltb, length, Float}
 use Rattle.lists.specs.Search.{all}
 use Rattle.chain.specs.declared.Checked.{Checked}
-use Rattle.chain.specs.declared.Checked.TheVariants as Checked
 use Rattle.chain.specs.Check.{joints_finite}
 use Rattle.path.specs.Solving.{joints_over}
 use Rattle.turn.specs.Items.{joints_from, joints_in}
 use Rattle.extremes.specs.declared.Asked.{Asked}
-use Rattle.extremes.specs.declared.Asked.TheVariants as Asked
 use Rattle.extremes.specs.Summary.{sets_in, summary_of, resummed}
 use Rattle.extremes.specs.Asking.{opened, first_above, full_reading}
 use Rattle.extremes.specs.Checking.{build_check, replace_check, ask_check}

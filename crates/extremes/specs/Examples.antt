@@ -1,6 +1,6 @@
 -- Worked examples that the checker computes: how many groups there are, zeros of both signs, a summary with its
 -- smallest five first, a tie, and an empty path.
-use Rattle.std.specs.Prelude.{◌≡◌, refl, false, List, [], ◌∷◌, ℕ, Float}
+use Rattle.std.specs.Prelude.{◌≡◌, refl, false, List, [], ◌∷◌, Float}
 use Rattle.std.specs.Float.Ieee as Ieee
 use Rattle.std.specs.Float.{binary64}
 use Rattle.std.specs.Float.Ieee.{of_bits, is_nan}
@@ -14,7 +14,6 @@ use Rattle.chain.specs.declared.Joints.{Joints}
 use Rattle.chain.specs.Check.{within}
 use Rattle.turn.specs.Items.{joints_in}
 use Rattle.extremes.specs.declared.Asked.{Asked}
-use Rattle.extremes.specs.declared.Asked.TheVariants as Asked
 use Rattle.extremes.specs.Summary.{sets_in, lower, upper, lower_set, upper_set, widened, extremes_of, group_count, groups, summary_of}
 use Rattle.extremes.specs.Asking.{angle_of, above, opened, above_at, hit, first_index, first_above}
 use Rattle.extremes.specs.Checking.{lengths_good, ask_good, ask_check}

@@ -12,7 +12,6 @@ use Rattle.turn.specs.Items.{pose_numbers, items_in}
 use Rattle.middle.specs.Testing.{midpoint, divides}
 use Rattle.turn.specs.Turning.{most, Cached}
 use Rattle.machine.specs.declared.Divided.{Divided}
-use Rattle.machine.specs.declared.Divided.TheVariants as Divided
 use Rattle.middle.specs.declared.Item.{Item}
 use Rattle.turn.specs.declared.Machine.{Machine}
 use Rattle.middle.specs.declared.Tolerances.{Tolerances}

@@ -6,7 +6,6 @@ use Rattle.turn.specs.Turning.{most}
 use Rattle.machine.specs.Dividing.{division_after}
 use Rattle.turn.specs.Items.{space_in}
 use Rattle.machine.specs.declared.Divided.{Divided}
-use Rattle.machine.specs.declared.Divided.TheVariants as Divided
 use Rattle.middle.specs.declared.Item.{Item}
 use Rattle.machine.specs.declared.Subdiv.{Subdiv}
 use Rattle.middle.specs.declared.Tolerances.{Tolerances}

@@ -1,17 +1,15 @@
 -- The code compares small numbers for carriers and makes each frame once for a pose; the definition compares carrier
 -- bytes and places each link by its own frame. For carriers that the chain has these are the same.
-use Prim.Native.Nat.{ℕ, zero, suc, ◌+◌, ◌<◌}
+use Prim.Native.Nat.{ℕ, ◌+◌}
 use native.Mathlib.Omega.{arith}
 use mathlib.Core.Path.{◌≡◌, refl, sym, ap, ◌∙◌}
-use mathlib.Core.Bool.{Bool, true, false, cond, not, ◌&&◌, ◌||◌, and-eq-true_iff}
+use mathlib.Core.Bool.{Bool, true, false, cond, and-eq-true_iff}
 use mathlib.Core.List.{List, [], ◌∷◌, map}
 use lib.Dec.{eqb}
 use lib.ListN.{length, get_or}
 use lib.Ieee.{Float}
 use borrow.Author.Tests.{eqb-true, eq-eqb}
 use Rattle.lists.specs.Search.{any, all, first_hit}
-use Rattle.geometry.specs.declared.Rigid.{Rigid}
-use Rattle.geometry.specs.Rigid.{identity}
 use Rattle.chain.specs.declared.Checked.TheVariants.{Passed}
 use Rattle.chain.specs.declared.Joints.{Joints}
 use Rattle.chain.specs.declared.Kinematics.{Kinematics}
@@ -21,17 +19,16 @@ use Rattle.model.specs.declared.Link.{Link}
 use Rattle.model.specs.declared.LinkKind.{LinkKind}
 use Rattle.model.specs.declared.LinkKind.TheVariants.{Base, Table, Head, Rotary, Unknown}
 use Rattle.model.specs.Carrier.{base, table, head, rotary_named, carrier_kind, known}
-use Rattle.model.specs.Frame.{frame_of, turns_forth, world_frame}
+use Rattle.model.specs.Frame.{frame_of, turns_forth}
 use Rattle.model.specs.Model.{links_of}
 use Rattle.model.specs.ModelCheck.{carrier_of}
 use Rattle.model.specs.Text.{same_bytes}
 use Rattle.meet.specs.Balls.{middle_at, radius_at}
 use Rattle.extremes.specs.Summary.{sets_in}
 use Rattle.meet.specs.Checking.{meeting_check}
-use Rattle.meet.specs.Meeting.{meets, first_pair, along_path, or_later, links_at, links_meet}
+use Rattle.meet.specs.Meeting.{meets, first_pair, along_path, links_at, links_meet}
 use Rattle.meet.specs.MeetingSteps.{rotary_class, class_of, link_ball, frames_at, frame_for, placed, near, pair_at}
 use Rattle.meet.specs.declared.Ball.{Ball}
-use Rattle.meet.specs.declared.Meeting.{Meeting}
 use Rattle.meet.specs.declared.Pair.{Pair}
 use Rattle.meet.proofs.Passing.{carried, passed_sound}
 

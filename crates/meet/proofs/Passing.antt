@@ -1,15 +1,14 @@
 -- What a call that passed its checks knows of the model's links: at most 64, each whole and good, each with a carrier
 -- that the chain has.
 use Prim.Native.Nat.{ℕ, ◌+◌, ◌%◌, ◌≤◌}
-use mathlib.Core.Path.{◌≡◌, refl, sym, ap, ◌∙◌}
-use mathlib.Core.Bool.{Bool, true, false, not, ◌&&◌, and-eq-true_iff}
+use mathlib.Core.Path.{◌≡◌, refl, sym, ◌∙◌}
+use mathlib.Core.Bool.{Bool, true, not, and-eq-true_iff}
 use mathlib.Core.List.{List, [], ◌∷◌}
 use lib.Dec.{eqb, leb}
 use lib.ListN.{length}
 use lib.Ieee.{Float}
 use borrow.Author.Tests.{leb-true}
 use Rattle.lists.specs.Search.{all}
-use Rattle.refusal.specs.declared.Refusal.{Refusal}
 use Rattle.chain.specs.declared.Checked.{Checked}
 use Rattle.chain.specs.declared.Checked.TheVariants.{Passed, Refused}
 use Rattle.chain.specs.declared.Kinematics.{Kinematics}
@@ -22,7 +21,7 @@ use Rattle.model.specs.ModelCheck.{name_check, name_of, carrier_of, named_before
 use Rattle.model.specs.Solid.{good_solid_at, solid_good, solid_at}
 use Rattle.refusal.specs.Numbers.{link_name_twice, carrier_unknown, solid_bad, too_many_links, lengths_differ, not_finite, too_large}
 use Rattle.extremes.specs.Summary.{sets_in}
-use Rattle.meet.specs.Checking.{meeting_sizes, meeting_check, small_link}
+use Rattle.meet.specs.Checking.{meeting_sizes, meeting_check}
 use Rattle.meet.specs.MeetingSteps.{whole_solid}
 
 -- ---- lists of checks

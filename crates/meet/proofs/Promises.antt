@@ -2,44 +2,40 @@
 -- then by the later; where none is given no pair meets at any pose. The middles stand where `link_world` puts them, and
 -- every cylinder's axis has a direction.
 use Prim.Native.Nat.{ℕ, zero, suc, ◌+◌, ◌≤◌, ◌<◌}
-use native.Mathlib.Nat.{add-zero, zero-add, le_of_suc-le-suc}
+use native.Mathlib.Nat.{zero-add}
 use native.Mathlib.Omega.{arith}
-use mathlib.Core.Path.{◌≡◌, refl, sym, ap, ◌∙◌, subst}
+use mathlib.Core.Path.{◌≡◌, refl, sym, ◌∙◌, subst}
 use mathlib.Core.Bool.{Bool, true, false, cond, ◌&&◌, and-eq-true_iff, false≢true}
 use mathlib.Core.List.{List, [], ◌∷◌}
-use lib.Dec.{ltb, leb}
+use lib.Dec.{leb}
 use lib.ListN.{length, get_or}
 use lib.Ieee.{Float}
 use borrow.Author.Tests.{ltb-true, ltb-false}
 use Rattle.lists.specs.Search.{any, all, first_hit}
-use Rattle.lists.proofs.Search.{any_within, first_hit_there, first_hit_before, first_hit_le, all_true}
+use Rattle.lists.proofs.Search.{any_within, first_hit_there, first_hit_before, all_true}
 use Rattle.refusal.specs.declared.Refusal.{Refusal}
 use Rattle.geometry.specs.declared.Direction.{Direction}
-use Rattle.geometry.specs.declared.Direction.TheVariants as Direction
 use Rattle.geometry.specs.declared.Vec3.{Vec3}
 use Rattle.geometry.specs.Direction.{all_finite, unit_direction, unit_or, along}
 use Rattle.chain.specs.declared.Checked.{Checked}
-use Rattle.chain.specs.declared.Checked.TheVariants as Checked
 use Rattle.chain.specs.declared.Joints.{Joints}
 use Rattle.chain.specs.declared.Kinematics.{Kinematics}
 use Rattle.chain.specs.Check.{joints_finite, joints_within, chain_within, served, has_direction}
 use Rattle.chain.specs.Prepared.{unit_axis}
 use Rattle.model.specs.declared.Link.{Link}
-use Rattle.model.specs.declared.LinkSolid.TheVariants.{Box, Cylinder}
+use Rattle.model.specs.declared.LinkSolid.TheVariants.{Cylinder}
 use Rattle.model.specs.declared.Placed.TheVariants as Placed
 use Rattle.model.specs.Carrier.{carrier_kind, known}
 use Rattle.model.specs.Frame.{frame_sizes, frame_check, world_frame, link_world}
 use Rattle.model.specs.Model.{links_of}
-use Rattle.model.specs.ModelCheck.{carrier_of, full_check}
+use Rattle.model.specs.ModelCheck.{carrier_of}
 use Rattle.model.specs.Solid.{solid_at, positive, cylinder_good, solid_good, good_solid_at}
 use Rattle.extremes.specs.Summary.{sets_in}
 use Rattle.meet.specs.Checking.{meeting_check, meeting_sizes, small_link}
-use Rattle.meet.specs.First.{NoneIn, FirstIn, FirstOn, NoneOn, Answered}
+use Rattle.meet.specs.First.{NoneIn, FirstIn, Answered}
 use Rattle.meet.specs.Meeting.{meets, first_pair, or_later, along_path, links_at, meeting_unless, links_meet}
 use Rattle.meet.specs.declared.Meeting.{Meeting}
-use Rattle.meet.specs.declared.Meeting.TheVariants as Meeting
 use Rattle.meet.specs.declared.Pair.{Pair}
-use Rattle.meet.specs.declared.Pair.TheVariants as Pair
 use Rattle.meet.proofs.Passing.{carried, good_link, passed, passed_sound}
 
 -- ---- one list, from an index on

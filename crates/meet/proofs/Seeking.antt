@@ -4,12 +4,12 @@ use Prim.Native.Nat.{ℕ, zero, suc, ◌+◌, ◌-◌, ◌*◌, ◌/◌, ◌≤�
 use native.Mathlib.Nat.{add-zero, sub-zero}
 use native.Mathlib.Numerals.{add-one}
 use native.Mathlib.Omega.{arith}
-use mathlib.Core.Path.{◌≡◌, refl, sym, ap, ◌∙◌}
+use mathlib.Core.Path.{◌≡◌, refl, sym, ◌∙◌}
 use mathlib.Core.Bool.{Bool, true, false, cond}
-use mathlib.Core.List.{List, [], ◌∷◌, ◌++◌, map}
+use mathlib.Core.List.{List, [], ◌∷◌}
 use lib.Dec.{ltb}
-use lib.ListN.{length, take, drop, get_or, length-drop, drop_of_length-le}
-use lib.Seq.{drop-cons, drop-drop, get_or-take, length-take-le}
+use lib.ListN.{length, take, drop, get_or, drop_of_length-le}
+use lib.Seq.{drop-cons, drop-drop, get_or-take}
 use lib.Ieee.{Float}
 use borrow.Author.Tests.{ltb-true, ltb-false}
 use Rattle.lists.specs.Rows.{rows}
@@ -22,9 +22,7 @@ use Rattle.meet.specs.Meeting.{first_pair, along_path, or_later}
 use Rattle.meet.specs.MeetingSteps.{near, no_ball}
 use Rattle.meet.specs.declared.Ball.{Ball}
 use Rattle.meet.specs.declared.Meeting.{Meeting}
-use Rattle.meet.specs.declared.Meeting.TheVariants as Meeting
 use Rattle.meet.specs.declared.Pair.{Pair}
-use Rattle.meet.specs.declared.Pair.TheVariants as Pair
 
 one_default : {A : Type 0} (l : List A) (i : ℕ) (d e : A) → i < length l → get_or l i d ≡ get_or l i e
 one_default [] i d e h = absurd (omega arith)

@@ -5,13 +5,11 @@ use Rattle.std.specs.Prelude.{Bool, true, false, List, ◌≡◌, ℕ, ◌<◌, 
 use Rattle.chain.specs.declared.Checked.TheVariants as Checked
 use Rattle.chain.specs.declared.Joints.{Joints}
 use Rattle.chain.specs.declared.Kinematics.{Kinematics}
-use Rattle.model.specs.declared.Link.{Link}
 use Rattle.model.specs.Model.{links_of}
 use Rattle.extremes.specs.Summary.{sets_in}
 use Rattle.meet.specs.Checking.{meeting_check}
 use Rattle.meet.specs.Meeting.{meets}
 use Rattle.meet.specs.declared.Meeting.{Meeting}
-use Rattle.meet.specs.declared.Meeting.TheVariants as Meeting
 
 -- ---- in one list: no two elements pass
 pub record NoneIn {A : Type 0} (test : A → A → Bool) (l : List A) : Type 0 where

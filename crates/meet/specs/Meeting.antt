@@ -4,7 +4,6 @@ use Rattle.std.specs.Float.Ieee as Ieee
 use Rattle.lists.specs.Search.{any, first_hit}
 use Rattle.geometry.specs.Vector.{plus, gap_vec}
 use Rattle.chain.specs.declared.Checked.{Checked}
-use Rattle.chain.specs.declared.Checked.TheVariants as Checked
 use Rattle.chain.specs.declared.Joints.{Joints}
 use Rattle.chain.specs.declared.Kinematics.{Kinematics}
 use Rattle.model.specs.declared.Link.{Link}
@@ -15,9 +14,7 @@ use Rattle.meet.specs.Balls.{middle_at, radius_at}
 use Rattle.extremes.specs.Summary.{sets_in}
 use Rattle.meet.specs.Checking.{meeting_check}
 use Rattle.meet.specs.declared.Meeting.{Meeting}
-use Rattle.meet.specs.declared.Meeting.TheVariants as Meeting
 use Rattle.meet.specs.declared.Pair.{Pair}
-use Rattle.meet.specs.declared.Pair.TheVariants as Pair
 
 -- two links at a joint set: of different carrier bytes, and their balls nearer than the sum of the radii
 unfoldable pub meets : Kinematics → List ℕ → Joints → Link → Link → Bool

@@ -1,5 +1,5 @@
 -- The words in which inner functions promise their results. A reader who believes `Meeting` needs none of them.
-use Rattle.std.specs.Prelude.{Bool, cond, not, ◌&&◌, List, [], ◌∷◌, map, ℕ, ◌+◌, eqb, leb, length, take, Float}
+use Rattle.std.specs.Prelude.{Bool, cond, not, ◌&&◌, List, map, ℕ, ◌+◌, eqb, leb, length, take, Float}
 use Rattle.std.specs.Float.Ieee as Ieee
 use Rattle.float.specs.Helpers.{nought}
 use Rattle.geometry.specs.declared.Rigid.{Rigid}

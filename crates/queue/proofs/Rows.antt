@@ -1,18 +1,17 @@
 -- Rows of calls: a path keeps its place until it is served, is served within 16 turns, and ends as alone.
-use Prim.Native.Nat.{ℕ, zero, suc, ◌+◌, ◌-◌, ◌≤◌, ◌<◌}
-use native.Mathlib.Nat.{sub-zero}
+use Prim.Native.Nat.{ℕ, suc, ◌+◌, ◌≤◌, ◌<◌}
 use native.Mathlib.Omega.{arith}
 use mathlib.Core.Path.{◌≡◌, refl, sym, ap, ◌∙◌, subst}
-use mathlib.Core.Bool.{Bool, true, false, cond, not, ◌||◌, true≢false, false≢true}
+use mathlib.Core.Bool.{Bool, true, false, cond, ◌||◌, true≢false}
 use mathlib.Core.Logic.{◌⊎◌, inl, inr}
-use mathlib.Core.List.{List, [], ◌∷◌, ◌++◌, append_assoc, head-eq_of_cons-eq, tail-eq_of_cons-eq, nil≢cons}
-use borrow.Author.Tests.{eqb-true, eqb-false, eq-eqb, ne_eqb, ltb-true}
+use mathlib.Core.List.{List, [], ◌∷◌, ◌++◌, append_assoc, head-eq_of_cons-eq, tail-eq_of_cons-eq}
+use borrow.Author.Tests.{eqb-false, eq-eqb, ne_eqb, ltb-true}
 use lib.Dec.{eqb, ltb}
 use lib.ListN.{length, length-append}
 use Rattle.lists.specs.Search.{any}
 use Rattle.queue.specs.Queue
 use Rattle.queue.specs.Queue.{Outcome, Still, Over, Entering, Entered, Refused, Waiting, Call, Admit, Next, Turn, Count, has, smallest_free}
-use Rattle.queue.proofs.Numbers.{free_not, free_below}
+use Rattle.queue.proofs.Numbers.{free_not}
 
 abbrev pub waits : {E : Type 0} → ℕ → E → Waiting E
 waits k e = record { number = k; path = e }

@@ -1,6 +1,6 @@
 -- Paths that are served in turn, over any state of a path (E), its lent buffers (B), what it is admitted with (I) and
 -- how it ends (R).
-use Prim.Native.Nat.{ℕ, zero, suc, ◌+◌, ◌<◌}
+use Prim.Native.Nat.{ℕ, zero, suc, ◌+◌}
 use mathlib.Core.Path.{◌≡◌}
 use mathlib.Core.Bool.{Bool, true, false, cond, not}
 use mathlib.Core.List.{List, [], ◌∷◌, ◌++◌}

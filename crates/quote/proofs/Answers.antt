@@ -1,5 +1,5 @@
 -- What the call answers and leaves, from what its parts do.
-use Prim.Native.Nat.{ℕ, suc, ◌+◌, ◌/◌}
+use Prim.Native.Nat.{ℕ, ◌+◌, ◌/◌}
 use native.Mathlib.Omega.{arith}
 use mathlib.Core.Path.{◌≡◌, refl, sym, ap, ◌∙◌}
 use mathlib.Core.Bool.{Bool, true, false, not, cond}
@@ -23,7 +23,6 @@ use Rattle.turn.proofs.Stored.{items_length}
 use Rattle.machine.specs.Dividing.{division}
 use Rattle.divide.specs.Subdividing.{given}
 use Rattle.quote.specs.declared.Quote.{Quote}
-use Rattle.quote.specs.declared.Quote.TheVariants as Quote
 use Rattle.quote.specs.Quotation.{cost_of, evaluations_of, figures, quote_in, quotation, scratch_enough, quote_check, quote_checked, quote_path, cleared, scratch_left}
 use Rattle.quote.specs.AsDivided.{AsDivided}
 use Rattle.quote.proofs.Tied.{as_divided}

@@ -1,11 +1,11 @@
 -- What the checks of a quotation leave to the machine, and what it leaves of a scratch.
-use Prim.Native.Nat.{ℕ, ◌*◌, ◌/◌, ◌%◌, ◌≤◌}
+use Prim.Native.Nat.{ℕ, ◌*◌, ◌/◌, ◌≤◌}
 use native.Mathlib.Omega.{arith}
 use mathlib.Core.Path.{◌≡◌, ap, ◌∙◌}
-use mathlib.Core.Bool.{Bool, true, ◌&&◌}
+use mathlib.Core.Bool.{true, ◌&&◌}
 use mathlib.Core.List.{List}
 use borrow.Author.Tests.{leb-true}
-use lib.Dec.{eqb, leb}
+use lib.Dec.{leb}
 use lib.ListN.{length, take, replicate}
 use lib.Ieee.{Float}
 use Rattle.float.specs.Helpers.{nought}
@@ -16,7 +16,7 @@ use Rattle.refusal.specs.Numbers.{lengths_differ}
 use Rattle.chain.specs.declared.Checked.TheVariants.{Passed}
 use Rattle.chain.specs.declared.Kinematics.{Kinematics}
 use Rattle.chain.specs.Check.{demand, chain_within, joints_within}
-use Rattle.chain.proofs.Passing.{then_passed, demand_passed}
+use Rattle.chain.proofs.Passing.{then_passed}
 use Rattle.chain.proofs.ReadyLaws.{both}
 use Rattle.path.specs.Solving.{poses_in, whole_records}
 use Rattle.middle.specs.declared.Tolerances.{Tolerances}

@@ -1,17 +1,16 @@
 -- The loop: the last item that stays, what waits and what was counted are always the halving's, by `Quoting`. `front`
 -- is what stays before the last item, and stands nowhere.
-use Prim.Native.Nat.{ℕ, suc, ◌+◌, ◌-◌, ◌*◌, ◌≤◌, ◌<◌}
+use Prim.Native.Nat.{ℕ, ◌+◌, ◌-◌, ◌*◌, ◌≤◌, ◌<◌}
 use native.Mathlib.Omega.{arith}
 use mathlib.Core.Path.{◌≡◌, refl, sym, ap, ◌∙◌, subst}
 use mathlib.Core.Bool.{Bool, true, false, cond}
 use mathlib.Core.Option.{Option, none, some}
 use mathlib.Core.List.{List, [], ◌∷◌, ◌++◌}
 use borrow.Author.Tests.{eqb-true, eqb-false, ltb-true, ltb-false, lt-ltb}
-use lib.Dec.{eqb, ltb}
+use lib.Dec.{eqb}
 use lib.ListN.{length, length-append}
 use lib.Ieee.{Float}
 use Rattle.quoting.proofs.Quotes.{Quoting, quoting_start, quoting_keep, quoting_insert, quoting_many, quoting_end}
-use Rattle.chain.specs.declared.Joints.{Joints}
 use Rattle.chain.specs.declared.Prepared.{Prepared}
 use Rattle.path.specs.Solving.{joints_over}
 use Rattle.middle.specs.declared.Item.{Item}
@@ -24,10 +23,8 @@ use Rattle.turn.proofs.Stored.{items_length}
 use Rattle.machine.specs.Dividing.{division}
 use Rattle.quote.specs.declared.Place.{Place}
 use Rattle.quote.specs.declared.Quote.{Quote}
-use Rattle.quote.specs.declared.Quote.TheVariants as Quote
 use Rattle.quote.specs.declared.Quoter.{Quoter}
 use Rattle.quote.specs.declared.Stepped.{Stepped}
-use Rattle.quote.specs.declared.Stepped.TheVariants as Stepped
 use Rattle.quote.specs.Quotation.{cost_of, evaluations_of, figures, quote_in, quotation}
 use Rattle.quote.specs.QuotationSteps.{arrived, next_given, first_waiting, verdict_of, past, with_midpoint, if_inserted, place_with, place_by, stack_by, place_after, stack_after, goes_on, keeping, stepped, begun, served_at, answer_in, Few, Lent, Runs}
 use Rattle.quote.proofs.Waiting.{waits, take_given, take_stacked, put_waiting, over_long, waits_first, waits_none}

@@ -1,11 +1,11 @@
 -- One step, from what its calls answer.
-use Prim.Native.Nat.{ℕ, ◌+◌, ◌-◌, ◌*◌, ◌≤◌, ◌<◌}
+use Prim.Native.Nat.{ℕ, ◌+◌, ◌-◌, ◌*◌, ◌≤◌}
 use native.Mathlib.Omega.{arith}
 use mathlib.Core.Path.{◌≡◌, refl, sym, ap, ◌∙◌}
 use mathlib.Core.Bool.{Bool, true, false, cond}
-use mathlib.Core.Option.{Option, none, some}
+use mathlib.Core.Option.{none, some}
 use mathlib.Core.List.{List}
-use borrow.Author.Tests.{eqb-true, eqb-false}
+use borrow.Author.Tests.{eqb-false}
 use lib.Dec.{eqb}
 use lib.ListN.{length}
 use lib.Ieee.{Float}
@@ -19,10 +19,8 @@ use Rattle.middle.specs.declared.Verdict.TheVariants.{Keep, Divide}
 use Rattle.middle.specs.Testing.{midpoint, divides, verdict_with}
 use Rattle.middle.proofs.Verdicts.{verdict_is}
 use Rattle.turn.specs.Turning.{most, reached}
-use Rattle.quote.specs.declared.Place.{Place}
 use Rattle.quote.specs.declared.Quoter.{Quoter}
 use Rattle.quote.specs.declared.Stepped.{Stepped}
-use Rattle.quote.specs.declared.Stepped.TheVariants as Stepped
 use Rattle.quote.specs.Quotation.{cost_of}
 use Rattle.quote.specs.QuotationSteps.{arrived, verdict_of, past, with_midpoint, if_inserted, place_with, place_after, stack_after, keeping, stepped, with_middle, inserting}
 use Rattle.quote.proofs.Kept.{arrived_mid, left_kept, right_axis_kept, inserted_kept}

@@ -1,7 +1,7 @@
 -- The figures are those of a division with space for what it gives, and 27 comes for the same inputs.
 use Prim.Native.Nat.{ℕ, ◌+◌, ◌≤◌}
 use native.Mathlib.Omega.{arith}
-use mathlib.Core.Path.{◌≡◌, refl, sym, ap, ◌∙◌, subst}
+use mathlib.Core.Path.{◌≡◌, refl, sym, ap, ◌∙◌}
 use mathlib.Core.Logic.{◌↔◌}
 use mathlib.Core.Bool.{Bool, true, false, cond}
 use mathlib.Core.List.{List}
@@ -14,7 +14,6 @@ use Rattle.halving.proofs.Ends.{Result, result}
 use Rattle.quoting.proofs.Spaces.{done_there, many_there}
 use Rattle.refusal.specs.declared.Refusal.{Refusal}
 use Rattle.chain.specs.declared.Checked.{Checked}
-use Rattle.chain.specs.declared.Checked.TheVariants as Checked
 use Rattle.chain.specs.declared.Kinematics.{Kinematics}
 use Rattle.chain.specs.declared.Prepared.{Prepared}
 use Rattle.chain.specs.Prepared.{prepared}
@@ -26,11 +25,10 @@ use Rattle.turn.specs.Items.{space_in}
 use Rattle.turn.specs.Turning.{most}
 use Rattle.machine.specs.Dividing.{division}
 use Rattle.divide.specs.Checking.{division_check}
-use Rattle.divide.specs.Subdividing.{DivisionAnswer, Kept, Halved, given, division_within, unless_kept, subdivide_path}
+use Rattle.divide.specs.Subdividing.{Kept, Halved, given, division_within, unless_kept, subdivide_path}
 use Rattle.divide.proofs.Idle.{busy_within}
 use Rattle.quote.specs.declared.Figures.{Figures}
 use Rattle.quote.specs.declared.Quote.{Quote}
-use Rattle.quote.specs.declared.Quote.TheVariants as Quote
 use Rattle.quote.specs.Quotation.{evaluations_of, figures, quote_in, quotation, scratch_whole, scratch_enough, quote_check, unless_refused, quote_checked, quote_path}
 use Rattle.quote.specs.AsDivided.{AsDivided}
 use Rattle.quote.proofs.Checks.{passed_there, division_passed, both_passed}

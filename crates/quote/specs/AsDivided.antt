@@ -1,5 +1,5 @@
 -- The figures of a quotation beside those of a division of the same input.
-use Rattle.std.specs.Prelude.{ℕ, ◌+◌, ◌/◌, ◌≤◌, ◌≡◌, ◌↔◌, true, List, length, Float}
+use Rattle.std.specs.Prelude.{ℕ, ◌+◌, ◌≤◌, ◌≡◌, ◌↔◌, true, List, length, Float}
 use Rattle.chain.specs.declared.Kinematics.{Kinematics}
 use Rattle.chain.specs.Prepared.{prepared}
 use Rattle.path.specs.Solving.{whole_records}
@@ -11,7 +11,6 @@ use Rattle.turn.specs.Turning.{most}
 use Rattle.divide.specs.Subdividing.{Halved, given, subdivide_path}
 use Rattle.quote.specs.declared.Figures.{Figures}
 use Rattle.quote.specs.declared.Quote.{Quote}
-use Rattle.quote.specs.declared.Quote.TheVariants as Quote
 use Rattle.quote.specs.Quotation.{evaluations_of, figures, scratch_whole, scratch_enough}
 
 -- of a quotation with scratches of so many numbers; a division is lent outputs of a and b numbers

@@ -3,7 +3,6 @@ use Rattle.std.specs.Prelude.{ℕ, ◌+◌, ◌/◌, ◌%◌, Bool, cond, ◌&&�
 use Rattle.float.specs.Helpers.{nought}
 use Rattle.refusal.specs.Numbers.{lengths_differ}
 use Rattle.chain.specs.declared.Checked.{Checked}
-use Rattle.chain.specs.declared.Checked.TheVariants as Checked
 use Rattle.chain.specs.declared.Kinematics.{Kinematics}
 use Rattle.chain.specs.declared.Prepared.{Prepared}
 use Rattle.chain.specs.Check.{demand, first_refusal}
@@ -20,7 +19,6 @@ use Rattle.divide.specs.Checking.{division_check}
 use Rattle.divide.specs.Subdividing.{given}
 use Rattle.quote.specs.declared.Figures.{Figures}
 use Rattle.quote.specs.declared.Quote.{Quote}
-use Rattle.quote.specs.declared.Quote.TheVariants as Quote
 
 -- ---- the figures
 -- a test under these tolerances: the axes that the two joint sets reach, and their midpoint

@@ -15,10 +15,8 @@ use Rattle.turn.specs.Items.{item, joints_in, item_at}
 use Rattle.turn.specs.Turning.{most, axis_at, reached}
 use Rattle.quote.specs.declared.Place.{Place}
 use Rattle.quote.specs.declared.Quote.{Quote}
-use Rattle.quote.specs.declared.Quote.TheVariants as Quote
 use Rattle.quote.specs.declared.Quoter.{Quoter}
 use Rattle.quote.specs.declared.Stepped.{Stepped}
-use Rattle.quote.specs.declared.Stepped.TheVariants as Stepped
 use Rattle.quote.specs.Quotation.{cost_of, figures}
 
 -- ---- the first that waits

@@ -15,7 +15,6 @@ use Rattle.middle.specs.declared.Tolerances.{Tolerances}
 use Rattle.divide.specs.Checking.{FitUpTo}
 use Rattle.job.specs.Spelling.{written}
 use Rattle.writer.specs.declared.Written.{Written}
-use Rattle.writer.specs.declared.Written.TheVariants as Written
 use Rattle.writer.specs.Writing.{record_of, chain_bytes, job_bytes, job_of}
 use Rattle.writer.specs.Checking.{job_length, length_of, write_check, written_job, written_answer, ReadBack, Rewritten}
 use Rattle.writer.proofs.Fitting.{ChainFits}

@@ -1,6 +1,6 @@
 -- What a reader gets from a job that was written: what the writer was given, bit for bit. Each part is found at the
 -- field of the reader's own lists.
-use Prim.Native.Nat.{ℕ, zero, suc, ◌+◌, ◌-◌, ◌*◌, ◌/◌, ◌≤◌, ◌<◌}
+use Prim.Native.Nat.{ℕ, zero, suc, ◌+◌, ◌*◌, ◌/◌, ◌≤◌, ◌<◌}
 use native.Mathlib.Omega.{arith}
 use mathlib.Core.Path.{◌≡◌, refl, sym, ap, ◌∙◌, subst}
 use mathlib.Core.Bool.{Bool, true, false, cond, not, ◌&&◌, ◌||◌, and-eq-true_iff, false≢true}
@@ -30,7 +30,6 @@ use Rattle.job.specs.JobBytes as Trailer
 use Rattle.job.specs.JobBytes.{trailer, word_length, sized, places_in, chain_end, poses_end, apart, placed, rotary_part, second_part, chain_part, second_in, chain_in, job_at, job_fields, job_from, read_job}
 use Rattle.job.specs.JobPoses.{numbers_at, poses_of}
 use Rattle.job.specs.declared.Places.{Places}
-use Rattle.job.specs.declared.Job.{Job}
 use Rattle.job.specs.declared.JobRead.TheVariants as JobRead
 use Rattle.writer.specs.Writing.{bytes_of, number_bytes, vector_bytes, carrier_byte, limits_byte, lower, upper, head_bytes, rest_bytes, rotary_bytes, rest_nought, second_nought, word_of, record_of, Width, second_bytes, chain_bytes, poses_bytes, trailer_bytes, job_bytes, plain, job_of}
 use Rattle.writer.proofs.Fitting.{TravelFits, RotaryFits, ChainFits}

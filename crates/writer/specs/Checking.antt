@@ -4,7 +4,6 @@ use Rattle.std.specs.Float.Ieee.Scale.{finite}
 use Rattle.lists.specs.Search.{all}
 use Rattle.refusal.specs.Numbers as Numbers
 use Rattle.chain.specs.declared.Checked.{Checked}
-use Rattle.chain.specs.declared.Checked.TheVariants as Checked
 use Rattle.chain.specs.declared.Kinematics.{Kinematics}
 use Rattle.chain.specs.Check.{demand, first_refusal, chain_check, chain_within}
 use Rattle.chain.specs.ChainBytes.{length_of_chain}
@@ -13,11 +12,9 @@ use Rattle.middle.specs.declared.Tolerances.{Tolerances}
 use Rattle.divide.specs.Checking.{tolerance_good, tip_within}
 use Rattle.job.specs.declared.Job.{Job}
 use Rattle.job.specs.declared.JobRead.{JobRead}
-use Rattle.job.specs.declared.JobRead.TheVariants as JobRead
 use Rattle.job.specs.JobBytes.{read_job}
 use Rattle.job.specs.JobPoses.{poses_of}
 use Rattle.writer.specs.declared.Written.{Written}
-use Rattle.writer.specs.declared.Written.TheVariants as Written
 use Rattle.writer.specs.Writing.{record_of, job_bytes, job_of}
 
 -- ---- sizes

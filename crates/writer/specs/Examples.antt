@@ -9,7 +9,6 @@ use Rattle.float.specs.Helpers.{nought}
 use Rattle.geometry.specs.Vector.{vector}
 use Rattle.refusal.specs.Numbers.{refusal}
 use Rattle.chain.specs.declared.Checked.{Checked}
-use Rattle.chain.specs.declared.Checked.TheVariants as Checked
 use Rattle.chain.specs.declared.Carrier.TheVariants.{Head}
 use Rattle.chain.specs.declared.Travel.TheVariants.{Unlimited}
 use Rattle.chain.specs.declared.Kinematics.{Kinematics}

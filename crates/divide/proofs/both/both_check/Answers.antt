@@ -1,4 +1,3 @@
-use borrow.Author.Rules.{rules}
 use Rattle.divide.specs.Subdividing.{both_check}
 use native.Mathlib.Omega.{arith}
 use Rattle.turn.proofs.Space.{space_joints}

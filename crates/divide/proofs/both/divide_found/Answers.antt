@@ -3,7 +3,6 @@ use Prim.Native.Nat.{◌/◌, ◌*◌}
 use mathlib.Core.Path.{refl, sym, ◌∙◌}
 use lib.ListN.{length, take}
 use Rattle.divide.proofs.Lengths.{check_lengths}
-use Rattle.geometry.proofs.FitVectors.{FitVec}
 use Rattle.turn.proofs.Space.{space_poses, space_joints}
 use Rattle.divide.proofs.Subdivides.{found_refused, found_ended}
 use Rattle.divide.proofs.both.divide_found.Goals as goal

@@ -2,7 +2,6 @@ use borrow.Author.Rules.{rules}
 use mathlib.Core.Path.{refl, sym, ◌∙◌}
 use native.Mathlib.Omega.{arith}
 use lib.ListN.{length}
-use Rattle.chain.proofs.UnitAxes.{FitAxes}
 use Rattle.divide.proofs.BothCalls.{room_for, chain_for, both_kept, both_at_pose, both_divided}
 use Rattle.divide.proofs.both.solve_and_divide.Goals as goal
 

@@ -1,4 +1,3 @@
-use borrow.Author.Rules.{rules}
 use Rattle.divide.specs.Subdividing.{three_whole}
 use Rattle.divide.proofs.both.three_whole.Goals as goal
 

@@ -1,4 +1,3 @@
-use borrow.Author.Rules.{rules}
 use mathlib.Core.Bool.{false≢true}
 use Rattle.divide.proofs.Checks.{finite_so, finite_not}
 use Rattle.divide.proofs.checking.all_finite.Goals as goal

@@ -1,4 +1,3 @@
-use borrow.Author.Rules.{rules}
 use Rattle.divide.specs.Checking.{checks_in_order}
 use Rattle.divide.proofs.checking.checks_in_order.Goals as goal
 

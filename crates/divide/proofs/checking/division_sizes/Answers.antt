@@ -1,8 +1,6 @@
-use borrow.Author.Rules.{rules}
 use native.Mathlib.Omega.{arith}
 use Rattle.divide.specs.Checking.{division_sizes}
 use Rattle.divide.proofs.Checks.{sets_taken}
-use borrow.Author.Tests.{le-leb, lt-leb}
 use Rattle.divide.proofs.checking.division_sizes.Goals as goal
 
 pub joint_sets_within-requires : goal.joint_sets_within-requires

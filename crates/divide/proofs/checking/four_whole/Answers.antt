@@ -1,4 +1,3 @@
-use borrow.Author.Rules.{rules}
 use Rattle.divide.specs.Checking.{four_whole}
 use Rattle.divide.proofs.checking.four_whole.Goals as goal
 

@@ -1,11 +1,8 @@
-use Prim.Native.Nat.{◌-◌}
 use native.Mathlib.Omega.{arith}
-use borrow.Author.Rules.{rules}
-use mathlib.Core.Path.{◌∙◌}
 use Rattle.lists.proofs.Tests.{isn't, is_after_all}
 use Rattle.chain.specs.Check.{joints_within}
 use Rattle.turn.specs.Items.{joints_from, joints_in}
-use Rattle.divide.proofs.Scanning.{Scanning, scanning_start, scanning_step, scanning_missed, scanning_all}
+use Rattle.divide.proofs.Scanning.{scanning_start, scanning_step, scanning_missed, scanning_all}
 use Rattle.std.proofs.lemmas.Bool.{not_from_true}
 use Rattle.std.proofs.lemmas.Bool.{not_from_false}
 use Rattle.divide.proofs.checking.joint_sets_within.Goals as goal

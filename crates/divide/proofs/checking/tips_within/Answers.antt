@@ -1,11 +1,8 @@
-use Prim.Native.Nat.{◌-◌}
 use native.Mathlib.Omega.{arith}
-use borrow.Author.Rules.{rules}
-use mathlib.Core.Path.{◌∙◌}
 use Rattle.lists.proofs.Tests.{isn't, is_after_all}
 use Rattle.path.specs.Solving.{pose_from, pose_in, poses_in}
 use Rattle.divide.specs.Checking.{tip_within}
-use Rattle.divide.proofs.Scanning.{Scanning, scanning_start, scanning_step, scanning_missed, scanning_all}
+use Rattle.divide.proofs.Scanning.{scanning_start, scanning_step, scanning_missed, scanning_all}
 use Rattle.std.proofs.lemmas.Bool.{not_from_true}
 use Rattle.std.proofs.lemmas.Bool.{not_from_false}
 use Rattle.divide.proofs.checking.tips_within.Goals as goal

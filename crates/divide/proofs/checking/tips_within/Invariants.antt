@@ -1,11 +1,7 @@
 use Prim.Native.Nat.{◌-◌}
-use native.Mathlib.Omega.{arith}
-use borrow.Author.Rules.{rules}
-use mathlib.Core.Path.{◌∙◌}
-use Rattle.lists.proofs.Tests.{isn't, is_after_all}
-use Rattle.path.specs.Solving.{pose_from, pose_in, poses_in}
+use Rattle.path.specs.Solving.{pose_from}
 use Rattle.divide.specs.Checking.{tip_within}
-use Rattle.divide.proofs.Scanning.{Scanning, scanning_start, scanning_step, scanning_missed, scanning_all}
+use Rattle.divide.proofs.Scanning.{Scanning}
 use Rattle.divide.proofs.checking.tips_within.Given as goal
 
 abbrev pub invariant-loop-i : goal.invariant-loop-i

@@ -1,4 +1,3 @@
-use borrow.Author.Rules.{rules}
 use Rattle.divide.specs.Checking.{tolerance_good}
 use Rattle.divide.proofs.checking.tolerance_good.Goals as goal
 

@@ -1,4 +1,3 @@
-use borrow.Author.Rules.{rules}
 use mathlib.Core.Path.{◌∙◌}
 use Rattle.divide.proofs.Idle.{idle_poses, idle_joints}
 use Rattle.divide.proofs.subdividing.cleared.Goals as goal

@@ -1,4 +1,3 @@
-use borrow.Author.Rules.{rules}
 use borrow.Author.Tests.{eq-eqb, ne_eqb}
 use Rattle.divide.specs.Subdividing.{idle}
 use Rattle.divide.proofs.subdividing.idle.Goals as goal

@@ -1,4 +1,3 @@
-use borrow.Author.Rules.{rules}
 use borrow.Author.Tests.{le-leb, lt-leb}
 use Rattle.divide.specs.Subdividing.{idle_answer}
 use Rattle.divide.proofs.subdividing.idle_answer.Goals as goal

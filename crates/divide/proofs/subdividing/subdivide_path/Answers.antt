@@ -2,7 +2,6 @@ use borrow.Author.Rules.{rules}
 use mathlib.Core.Path.{refl, sym, ◌∙◌}
 use lib.ListN.{length}
 use Rattle.divide.proofs.Lengths.{check_lengths}
-use Rattle.geometry.proofs.FitVectors.{FitVec}
 use Rattle.turn.proofs.Space.{space_poses, space_joints}
 use Rattle.divide.proofs.Subdivides.{all_taken, subdivide_refused, subdivide_ended}
 use Rattle.divide.proofs.subdividing.subdivide_path.Goals as goal

@@ -1,9 +1,6 @@
-use Prim.Native.Nat.{◌-◌, ◌*◌, ◌≤◌}
 use native.Mathlib.Omega.{arith}
-use lib.ListN.{length}
-use Rattle.extremes.specs.Summary.{group_count}
 use Rattle.extremes.proofs.Groups.{end_is}
-use Rattle.extremes.proofs.Searching.{Groups, groups_start, groups_found, groups_step, groups_end, room_in}
+use Rattle.extremes.proofs.Searching.{groups_start, groups_found, groups_step, groups_end, room_in}
 use Rattle.extremes.proofs.asking.first_above.Goals as goal
 
 pub loop-k-init : goal.loop-k-init

@@ -1,9 +1,7 @@
 use Prim.Native.Nat.{◌-◌, ◌*◌, ◌≤◌}
-use native.Mathlib.Omega.{arith}
 use lib.ListN.{length}
-use Rattle.lists.proofs.Tests.{is}
 use Rattle.extremes.specs.Asking.{above_at}
-use Rattle.extremes.proofs.Searching.{Going, going_start, going_step, going_found, going_end}
+use Rattle.extremes.proofs.Searching.{Going}
 use Rattle.extremes.proofs.asking.first_in.Given as goal
 
 abbrev pub invariant-loop-i : goal.invariant-loop-i

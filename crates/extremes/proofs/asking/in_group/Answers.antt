@@ -1,5 +1,4 @@
 use native.Mathlib.Omega.{arith}
-use mathlib.Core.Path.{◌≡◌}
 use Rattle.lists.proofs.Tests.{is}
 use Rattle.extremes.specs.AskingSteps.{in_group}
 use Rattle.extremes.proofs.asking.in_group.Goals as goal

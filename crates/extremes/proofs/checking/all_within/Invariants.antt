@@ -1,8 +1,6 @@
 use Prim.Native.Nat.{◌-◌}
-use native.Mathlib.Omega.{arith}
-use Rattle.lists.proofs.Tests.{isn't, is_after_all}
 use Rattle.chain.specs.Check.{joints_within}
-use Rattle.extremes.proofs.Testing.{Testing, testing_start, testing_step, testing_missed, testing_all}
+use Rattle.extremes.proofs.Testing.{Testing}
 use Rattle.extremes.proofs.checking.all_within.Given as goal
 
 abbrev pub invariant-loop-i : goal.invariant-loop-i

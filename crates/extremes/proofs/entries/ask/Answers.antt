@@ -1,5 +1,4 @@
 use native.Mathlib.Omega.{arith}
-use borrow.Author.Rules.{rules}
 use Rattle.extremes.specs.Entries.{ask_of}
 use Rattle.extremes.proofs.Answers.{promised}
 use Rattle.extremes.proofs.Checks.{ask_lengths}

@@ -1,4 +1,3 @@
-use borrow.Author.Rules.{rules}
 use Rattle.extremes.specs.Entries.{summary_built}
 use Rattle.extremes.proofs.Checks.{build_lengths}
 use Rattle.extremes.proofs.entries.build.Goals as goal

@@ -1,5 +1,4 @@
 use native.Mathlib.Omega.{arith}
-use borrow.Author.Rules.{rules}
 use Rattle.extremes.specs.Entries.{joints_replaced, summary_replaced}
 use Rattle.extremes.proofs.Afresh.{joints_left_lem, summary_left, left_own}
 use Rattle.extremes.proofs.Checks.{replace_lengths}

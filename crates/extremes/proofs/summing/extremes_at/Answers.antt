@@ -1,7 +1,5 @@
-use Prim.Native.Nat.{◌-◌, ◌<◌}
 use native.Mathlib.Omega.{arith}
-use Rattle.extremes.specs.Summary.{sets_in}
-use Rattle.extremes.proofs.Building.{Widening, widening_start, widening_step, widening_end}
+use Rattle.extremes.proofs.Building.{widening_start, widening_step, widening_end}
 use Rattle.extremes.proofs.summing.extremes_at.Goals as goal
 
 pub overflow_mul-from : goal.overflow_mul-from

@@ -1,7 +1,6 @@
 use Prim.Native.Nat.{◌-◌, ◌<◌}
-use native.Mathlib.Omega.{arith}
 use Rattle.extremes.specs.Summary.{sets_in}
-use Rattle.extremes.proofs.Building.{Widening, widening_start, widening_step, widening_end}
+use Rattle.extremes.proofs.Building.{Widening}
 use Rattle.extremes.proofs.summing.extremes_at.Given as goal
 
 abbrev pub invariant-loop-i : goal.invariant-loop-i

@@ -1,5 +1,4 @@
 use native.Mathlib.Omega.{arith}
-use borrow.Author.Rules.{rules}
 use mathlib.Core.Path.{◌∙◌}
 use Rattle.extremes.proofs.Building.{stored}
 use Rattle.extremes.proofs.summing.put_extremes.Goals as goal

@@ -1,7 +1,5 @@
-use Prim.Native.Nat.{◌-◌}
 use native.Mathlib.Omega.{arith}
-use Rattle.extremes.specs.Summary.{sets_in}
-use Rattle.extremes.proofs.Building.{Built, built_start, built_room, built_step, built_end}
+use Rattle.extremes.proofs.Building.{built_start, built_room, built_step, built_end}
 use Rattle.extremes.proofs.summing.sum_groups.Goals as goal
 
 pub group_count-count-requires : goal.group_count-count-requires

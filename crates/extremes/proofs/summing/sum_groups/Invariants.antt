@@ -1,7 +1,6 @@
 use Prim.Native.Nat.{◌-◌}
-use native.Mathlib.Omega.{arith}
 use Rattle.extremes.specs.Summary.{sets_in}
-use Rattle.extremes.proofs.Building.{Built, built_start, built_room, built_step, built_end}
+use Rattle.extremes.proofs.Building.{Built}
 use Rattle.extremes.proofs.summing.sum_groups.Given as goal
 
 abbrev pub invariant-loop-g : goal.invariant-loop-g

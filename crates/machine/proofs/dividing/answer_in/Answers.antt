@@ -1,4 +1,3 @@
-use borrow.Author.Rules.{rules}
 use Rattle.machine.proofs.dividing.answer_in.Goals as goal
 
 pub returns-in-On : goal.returns-in-On

@@ -1,5 +1,4 @@
 use Rattle.turn.specs.Turning.{begun}
-use borrow.Author.Rules.{rules}
 use Rattle.machine.proofs.dividing.begin.Goals as goal
 
 pub returns : goal.returns

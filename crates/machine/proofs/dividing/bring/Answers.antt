@@ -1,5 +1,5 @@
 use native.Mathlib.Omega.{arith}
-use Rattle.machine.proofs.Bringing.{Bringing, bringing_start, bringing_step, bringing_end}
+use Rattle.machine.proofs.Bringing.{bringing_start, bringing_step, bringing_end}
 use Rattle.machine.proofs.dividing.bring.Goals as goal
 
 pub loop-j-init : goal.loop-j-init

@@ -1,5 +1,4 @@
-use native.Mathlib.Omega.{arith}
-use Rattle.machine.proofs.Bringing.{Bringing, bringing_start, bringing_step, bringing_end}
+use Rattle.machine.proofs.Bringing.{Bringing}
 use Rattle.machine.proofs.dividing.bring.Given as goal
 
 abbrev pub invariant-loop-j : goal.invariant-loop-j

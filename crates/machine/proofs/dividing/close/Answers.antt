@@ -1,4 +1,3 @@
-use borrow.Author.Rules.{rules}
 use Rattle.machine.proofs.dividing.close.Goals as goal
 
 pub clear_from-requires : goal.clear_from-requires

@@ -1,9 +1,6 @@
-use borrow.Author.Rules.{rules}
 use Prim.Native.Nat.{◌-◌}
-use native.Mathlib.Omega.{arith}
 use lib.ListN.{length}
-use lib.Ieee.{nan}
-use Rattle.machine.proofs.Copies.{Fronting, fronting_start, fronting_step, fronting_end}
+use Rattle.machine.proofs.Copies.{Fronting}
 use Rattle.machine.proofs.dividing.copy_front.Given as goal
 
 abbrev pub invariant-loop-i : goal.invariant-loop-i

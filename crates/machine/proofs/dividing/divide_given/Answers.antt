@@ -1,4 +1,3 @@
-use borrow.Author.Rules.{rules}
 use Rattle.machine.proofs.Copies.{copied_joints}
 use Rattle.machine.proofs.dividing.divide_given.Goals as goal
 

@@ -1,4 +1,3 @@
-use borrow.Author.Rules.{rules}
 use Rattle.machine.specs.Dividing.{division, division_after}
 use Rattle.machine.proofs.dividing.divide_items.Goals as goal
 

@@ -1,6 +1,5 @@
 use borrow.Author.Tests.{le-leb, lt-leb}
 use Rattle.turn.specs.Turning.{end_at_start}
-use borrow.Author.Rules.{rules}
 use Rattle.machine.proofs.dividing.end_at_start.Goals as goal
 
 pub returns-then-count-le1 : goal.returns-then-count-le1

@@ -1,8 +1,5 @@
-use borrow.Author.Rules.{rules}
 use mathlib.Core.Path.{◌∙◌}
-use Rattle.machine.specs.Dividing.{held}
-use Rattle.turn.proofs.Running.{work}
-use Rattle.machine.proofs.Runs.{Going, going_start, going_runs, going_on, going_less, going_many, going_full, going_end}
+use Rattle.machine.proofs.Runs.{going_start, going_runs, going_on, going_less, going_many, going_full, going_end}
 use Rattle.machine.proofs.dividing.run.Goals as goal
 
 pub loop-state-init : goal.loop-state-init

@@ -1,8 +1,6 @@
-use borrow.Author.Rules.{rules}
-use mathlib.Core.Path.{◌∙◌}
 use Rattle.machine.specs.Dividing.{held}
 use Rattle.turn.proofs.Running.{work}
-use Rattle.machine.proofs.Runs.{Going, going_start, going_runs, going_on, going_less, going_many, going_full, going_end}
+use Rattle.machine.proofs.Runs.{Going}
 use Rattle.machine.proofs.dividing.run.Given as goal
 
 abbrev pub invariant-loop-state : goal.invariant-loop-state

@@ -1,5 +1,4 @@
 use borrow.Author.Tests.{lt-ltb, le-ltb}
-use borrow.Author.Rules.{rules}
 use Rattle.machine.specs.Filling.{filled}
 use Rattle.turn.proofs.Space.{space_so}
 use Rattle.machine.proofs.filling.fill_pair.Goals as goal

@@ -1,4 +1,3 @@
-use borrow.Author.Rules.{rules}
 use native.Mathlib.Omega.{arith}
 use Rattle.machine.proofs.Pairs.{pair_filled, counted_most}
 use Rattle.machine.proofs.filling.fill_space.Goals as goal

@@ -1,5 +1,4 @@
 use borrow.Author.Tests.{le-leb, lt-leb}
-use borrow.Author.Rules.{rules}
 use Rattle.machine.specs.Filling.{recounted}
 use Rattle.machine.proofs.filling.recounted.Goals as goal
 

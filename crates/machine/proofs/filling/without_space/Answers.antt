@@ -1,4 +1,3 @@
-use borrow.Author.Rules.{rules}
 use mathlib.Core.Path.{refl, ◌∙◌}
 use Rattle.float.specs.Helpers.{nought}
 use Rattle.lists.proofs.Padding.{padded_nil}

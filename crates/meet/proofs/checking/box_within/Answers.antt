@@ -1,4 +1,3 @@
-use borrow.Author.Rules.{rules}
 use Rattle.meet.specs.Checking.{box_within}
 use Rattle.meet.proofs.checking.box_within.Goals as goal
 

@@ -1,4 +1,3 @@
-use borrow.Author.Rules.{rules}
 use Rattle.meet.specs.Checking.{cylinder_within}
 use Rattle.meet.proofs.checking.cylinder_within.Goals as goal
 

@@ -1,4 +1,3 @@
-use borrow.Author.Rules.{rules}
 use Rattle.meet.specs.Checking.{meeting_check}
 use Rattle.meet.proofs.checking.meeting_check.Goals as goal
 

@@ -1,4 +1,3 @@
-use borrow.Author.Rules.{rules}
 use Rattle.meet.specs.Checking.{meeting_sizes}
 use Rattle.meet.proofs.checking.meeting_sizes.Goals as goal
 

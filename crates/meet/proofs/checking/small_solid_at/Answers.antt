@@ -1,4 +1,3 @@
-use borrow.Author.Rules.{rules}
 use Rattle.meet.specs.Checking.{small_solid_at}
 use borrow.Author.Tests.{le-leb, lt-leb}
 use Rattle.meet.proofs.checking.small_solid_at.Goals as goal

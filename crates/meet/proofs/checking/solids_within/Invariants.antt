@@ -1,9 +1,7 @@
 use Prim.Native.Nat.{◌-◌}
-use native.Mathlib.Omega.{arith}
 use lib.ListN.{length}
-use Rattle.lists.proofs.Tests.{isn't, is_after_all}
 use Rattle.meet.specs.Checking.{small_link}
-use Rattle.meet.proofs.Filling.{Testing, testing_start, testing_step, testing_missed, testing_end}
+use Rattle.meet.proofs.Filling.{Testing}
 use Rattle.meet.proofs.checking.solids_within.Given as goal
 
 abbrev pub invariant-loop-at : goal.invariant-loop-at

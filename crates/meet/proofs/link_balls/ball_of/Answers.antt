@@ -1,4 +1,3 @@
-use borrow.Author.Rules.{rules}
 use Rattle.meet.proofs.link_balls.ball_of.Goals as goal
 
 pub returns-in-Box : goal.returns-in-Box

@@ -1,7 +1,5 @@
-use Prim.Native.Nat.{◌-◌}
 use native.Mathlib.Omega.{arith}
-use lib.ListN.{length}
-use Rattle.meet.proofs.Filling.{Filling, filling_start, filling_room, filling_whole, filling_step, filling_end}
+use Rattle.meet.proofs.Filling.{filling_start, filling_room, filling_whole, filling_step, filling_end}
 use Rattle.meet.proofs.link_balls.balls_in.Goals as goal
 
 pub loop-at-init : goal.loop-at-init

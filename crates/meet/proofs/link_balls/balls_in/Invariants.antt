@@ -1,7 +1,6 @@
 use Prim.Native.Nat.{◌-◌}
-use native.Mathlib.Omega.{arith}
 use lib.ListN.{length}
-use Rattle.meet.proofs.Filling.{Filling, filling_start, filling_room, filling_whole, filling_step, filling_end}
+use Rattle.meet.proofs.Filling.{Filling}
 use Rattle.meet.proofs.link_balls.balls_in.Given as goal
 
 abbrev pub invariant-loop-at : goal.invariant-loop-at

@@ -1,4 +1,3 @@
-use borrow.Author.Rules.{rules}
 use Rattle.meet.specs.Balls.{box_middle, box_radius}
 use Rattle.meet.proofs.link_balls.box_ball.Goals as goal
 

@@ -1,4 +1,3 @@
-use borrow.Author.Rules.{rules}
 use Rattle.meet.proofs.link_balls.class_of.Goals as goal
 
 pub returns-in-Base : goal.returns-in-Base

@@ -1,4 +1,3 @@
-use borrow.Author.Rules.{rules}
 use Rattle.chain.specs.Prepared.{unit_axis}
 use Rattle.meet.specs.Balls.{cylinder_middle, cylinder_radius}
 use Rattle.meet.proofs.link_balls.cylinder_ball.Goals as goal

@@ -1,4 +1,3 @@
-use borrow.Author.Rules.{rules}
 use Rattle.meet.specs.MeetingSteps.{link_ball}
 use Rattle.meet.proofs.link_balls.link_ball.Goals as goal
 

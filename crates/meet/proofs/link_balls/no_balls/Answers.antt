@@ -1,4 +1,3 @@
-use borrow.Author.Rules.{rules}
 use mathlib.Core.Path.{refl}
 use Rattle.meet.proofs.link_balls.no_balls.Goals as goal
 

@@ -1,4 +1,3 @@
-use borrow.Author.Rules.{rules}
 use Rattle.meet.specs.MeetingSteps.{rotary_class}
 use borrow.Author.Tests.{eq-eqb, ne_eqb}
 use Rattle.meet.proofs.link_balls.rotary_class.Goals as goal

@@ -1,11 +1,10 @@
-use Prim.Native.Nat.{◌+◌, ◌-◌, ◌*◌, ◌≤◌}
-use mathlib.Core.Path.{◌≡◌, refl}
+use mathlib.Core.Path.{◌≡◌}
 use native.Mathlib.Omega.{arith}
 use borrow.Author.Rules.{rules}
 use lib.ListN.{length}
 use Rattle.lists.proofs.Fold.{length_of_map}
 use Rattle.lists.proofs.Tests.{is}
-use Rattle.meet.proofs.Seeking.{Pairing, pairing_start, pairing_next, pairing_step, pairing_found, pairing_end}
+use Rattle.meet.proofs.Seeking.{pairing_start, pairing_next, pairing_step, pairing_found, pairing_end}
 use Rattle.meet.proofs.pairs.first_pair.Goals as goal
 
 pub loop-i-init : goal.loop-i-init

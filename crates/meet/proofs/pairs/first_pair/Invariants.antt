@@ -1,11 +1,7 @@
 use Prim.Native.Nat.{◌+◌, ◌-◌, ◌*◌, ◌≤◌}
-use mathlib.Core.Path.{◌≡◌, refl}
-use native.Mathlib.Omega.{arith}
-use borrow.Author.Rules.{rules}
+use mathlib.Core.Path.{◌≡◌}
 use lib.ListN.{length}
-use Rattle.lists.proofs.Fold.{length_of_map}
-use Rattle.lists.proofs.Tests.{is}
-use Rattle.meet.proofs.Seeking.{Pairing, pairing_start, pairing_next, pairing_step, pairing_found, pairing_end}
+use Rattle.meet.proofs.Seeking.{Pairing}
 use Rattle.meet.proofs.pairs.first_pair.Given as goal
 
 abbrev pub invariant-loop-i : goal.invariant-loop-i

@@ -1,4 +1,3 @@
-use borrow.Author.Rules.{rules}
 use Rattle.meet.specs.MeetingSteps.{near}
 use borrow.Author.Tests.{eq-eqb, ne_eqb}
 use Rattle.meet.proofs.pairs.near.Goals as goal

@@ -1,4 +1,3 @@
-use borrow.Author.Rules.{rules}
 use Rattle.meet.specs.MeetingSteps.{frame_for}
 use borrow.Author.Tests.{eq-eqb, ne_eqb}
 use Rattle.meet.proofs.placing.frame_for.Goals as goal

@@ -1,4 +1,3 @@
-use borrow.Author.Rules.{rules}
 use Rattle.meet.specs.MeetingSteps.{frames_at}
 use Rattle.meet.proofs.placing.frames_at.Goals as goal
 

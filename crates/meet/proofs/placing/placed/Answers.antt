@@ -1,4 +1,3 @@
-use borrow.Author.Rules.{rules}
 use Rattle.meet.specs.MeetingSteps.{placed}
 use Rattle.meet.proofs.placing.placed.Goals as goal
 

@@ -1,11 +1,9 @@
-use Prim.Native.Nat.{◌-◌, ◌≤◌}
 use mathlib.Core.Path.{◌≡◌, refl, sym, ◌∙◌}
 use native.Mathlib.Omega.{arith}
 use borrow.Author.Rules.{rules}
 use lib.ListN.{length}
 use Rattle.lists.proofs.Fold.{length_of_map}
-use Rattle.meet.specs.MeetingSteps.{placed}
-use Rattle.meet.proofs.Putting.{Putting, putting_start, putting_step, putting_end}
+use Rattle.meet.proofs.Putting.{putting_start, putting_step, putting_end}
 use Rattle.meet.proofs.placing.placed_all.Goals as goal
 
 pub loop-i-init : goal.loop-i-init

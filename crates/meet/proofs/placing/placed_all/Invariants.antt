@@ -1,11 +1,8 @@
 use Prim.Native.Nat.{◌-◌, ◌≤◌}
-use mathlib.Core.Path.{◌≡◌, refl, sym, ◌∙◌}
-use native.Mathlib.Omega.{arith}
-use borrow.Author.Rules.{rules}
+use mathlib.Core.Path.{◌≡◌}
 use lib.ListN.{length}
-use Rattle.lists.proofs.Fold.{length_of_map}
 use Rattle.meet.specs.MeetingSteps.{placed}
-use Rattle.meet.proofs.Putting.{Putting, putting_start, putting_step, putting_end}
+use Rattle.meet.proofs.Putting.{Putting}
 use Rattle.meet.proofs.placing.placed_all.Given as goal
 
 abbrev pub invariant-loop-i : goal.invariant-loop-i

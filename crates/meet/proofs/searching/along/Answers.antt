@@ -1,11 +1,5 @@
-use Prim.Native.Nat.{◌-◌, ◌≤◌}
 use native.Mathlib.Omega.{arith}
-use mathlib.Core.Path.{◌≡◌, sym, ◌∙◌}
-use borrow.Author.Rules.{rules}
-use lib.ListN.{length}
-use Rattle.lists.proofs.Tests.{is}
-use Rattle.meet.specs.MeetingSteps.{pair_at, listed}
-use Rattle.meet.proofs.Seeking.{Following, following_start, following_step, following_found, following_end}
+use Rattle.meet.proofs.Seeking.{following_start, following_step, following_found, following_end}
 use Rattle.meet.proofs.searching.along.Goals as goal
 
 pub loop-i-init : goal.loop-i-init

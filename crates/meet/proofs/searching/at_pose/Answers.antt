@@ -1,5 +1,4 @@
 use native.Mathlib.Omega.{arith}
-use borrow.Author.Rules.{rules}
 use Rattle.meet.specs.MeetingSteps.{pair_at}
 use Rattle.meet.proofs.searching.at_pose.Goals as goal
 

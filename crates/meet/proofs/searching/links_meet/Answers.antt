@@ -1,5 +1,4 @@
 use mathlib.Core.Path.{◌∙◌}
-use borrow.Author.Rules.{rules}
 use Rattle.lists.proofs.Tests.{is}
 use Rattle.meet.proofs.Passing.{passed_sound}
 use Rattle.meet.proofs.Classes.{meeting_agree}

@@ -1,7 +1,5 @@
 use borrow.Author.Tests.{le-leb, lt-leb}
 use Rattle.quote.specs.Quotation.{scratch_enough}
-use Rattle.quote.proofs.checking.scratch_enough.Reads as reads
-use Rattle.quote.proofs.checking.scratch_enough.Lts as lts
 use Rattle.quote.proofs.checking.scratch_enough.Goals as goal
 
 pub returns-then-room_joints-ge10000 : goal.returns-then-room_joints-ge10000

@@ -1,7 +1,5 @@
 use borrow.Author.Tests.{eq-eqb, ne_eqb}
 use Rattle.quote.specs.Quotation.{scratch_whole}
-use Rattle.quote.proofs.checking.scratch_whole.Reads as reads
-use Rattle.quote.proofs.checking.scratch_whole.Lts as lts
 use Rattle.quote.proofs.checking.scratch_whole.Goals as goal
 
 pub returns-then-room_joints-eq0 : goal.returns-then-room_joints-eq0

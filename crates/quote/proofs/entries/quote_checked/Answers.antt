@@ -1,4 +1,3 @@
-use borrow.Author.Rules.{rules}
 use mathlib.Core.Path.{refl, ◌∙◌}
 use Rattle.quote.proofs.Checks.{cleared_so}
 use Rattle.quote.proofs.entries.quote_checked.Goals as goal

@@ -1,4 +1,3 @@
-use borrow.Author.Rules.{rules}
 use mathlib.Core.Path.{sym, ◌∙◌}
 use Rattle.quote.proofs.Checks.{quote_passed}
 use Rattle.quote.proofs.Answers.{refused_so, checked_so}

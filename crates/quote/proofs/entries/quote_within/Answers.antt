@@ -1,4 +1,3 @@
-use borrow.Author.Rules.{rules}
 use lib.ListN.{length}
 use Rattle.quote.proofs.Checks.{enough_joints}
 use Rattle.quote.proofs.Answers.{short_so, enough_is, enough_so}

@@ -1,12 +1,5 @@
 use Rattle.quote.proofs.Costs.{cost_low}
 use Rattle.quote.proofs.Steps.{stepped_keep, stepped_divide}
-use borrow.Author.Rules.{rules}
-use Rattle.quote.proofs.stepping.advance.Reads as reads
-use Rattle.quote.proofs.stepping.advance.Lts as lts
-use Rattle.middle.proofs.verdict_with.Reads as verdict-with-reads
-use Rattle.quote.proofs.stepping.cost.Reads as cost-reads
-use Rattle.quote.proofs.stepping.insert.Reads as insert-reads
-use Rattle.quote.proofs.stepping.move_on.Reads as move-on-reads
 use Rattle.quote.proofs.stepping.advance.Goals as goal
 
 pub move_on-requires : goal.move_on-requires

@@ -1,7 +1,3 @@
-use borrow.Author.Rules.{rules}
-use Rattle.quote.proofs.stepping.answer_in.Reads as reads
-use Rattle.quote.proofs.stepping.answer_in.Lts as lts
-use Rattle.quote.proofs.stepping.served.Reads as served-reads
 use Rattle.quote.proofs.stepping.answer_in.Goals as goal
 
 pub served-requires : goal.served-requires

@@ -4,13 +4,6 @@ use Rattle.turn.specs.Turning.{axis_at}
 use lib.Dec.{lit≤}
 use Rattle.quote.specs.QuotationSteps.{begun}
 use Rattle.quote.proofs.Kept.{begun_axis}
-use borrow.Author.Rules.{rules}
-use Rattle.quote.proofs.stepping.begin.Reads as reads
-use Rattle.quote.proofs.stepping.begin.Lts as lts
-use Rattle.quote.proofs.stepping.evaluated.Reads as evaluated-reads
-use Rattle.quote.proofs.stepping.next_given.Reads as next-given-reads
-use Rattle.turn.proofs.item_at.Reads as item-at-reads
-use Rattle.turn.proofs.axis_at.Reads as axis-at-reads
 use Rattle.quote.proofs.stepping.begin.Goals as goal
 
 pub next_given-requires : goal.next_given-requires

@@ -1,9 +1,4 @@
 use Rattle.quote.specs.Quotation.{cost_of}
-use borrow.Author.Rules.{rules}
-use Rattle.quote.proofs.stepping.cost.Reads as reads
-use Rattle.quote.proofs.stepping.cost.Lts as lts
-use Rattle.middle.proofs.joints_unchanged.Reads as joints-unchanged-reads
-use Rattle.quote.proofs.stepping.per_test.Reads as per-test-reads
 use Rattle.quote.proofs.stepping.cost.Goals as goal
 
 pub returns-then-joints_unchanged : goal.returns-then-joints_unchanged

@@ -1,11 +1,6 @@
 use native.Mathlib.Omega.{arith}
 use borrow.Author.Tests.{eq-eqb, ne_eqb}
 use Rattle.quote.specs.QuotationSteps.{end_after}
-use borrow.Author.Rules.{rules}
-use Rattle.quote.proofs.stepping.end_after.Reads as reads
-use Rattle.quote.proofs.stepping.end_after.Lts as lts
-use Rattle.quote.proofs.stepping.next_given.Reads as next-given-reads
-use Rattle.turn.proofs.axis_at.Reads as axis-at-reads
 use Rattle.quote.proofs.stepping.end_after.Goals as goal
 
 pub next_given-requires : goal.next_given-requires

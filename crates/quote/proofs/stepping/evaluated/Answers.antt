@@ -1,9 +1,4 @@
 use Rattle.quote.proofs.Kept.{evaluated_so}
-use borrow.Author.Rules.{rules}
-use Rattle.quote.proofs.stepping.evaluated.Reads as reads
-use Rattle.quote.proofs.stepping.evaluated.Lts as lts
-use Rattle.quote.proofs.stepping.first_waiting.Reads as first-waiting-reads
-use Rattle.quote.proofs.stepping.waiting_axis.Reads as waiting-axis-reads
 use Rattle.quote.proofs.stepping.evaluated.Goals as goal
 
 pub returns : goal.returns

@@ -1,13 +1,6 @@
 use native.Mathlib.Omega.{arith}
 use borrow.Author.Tests.{eq-eqb, ne_eqb}
 use Rattle.quote.specs.QuotationSteps.{first_waiting}
-use borrow.Author.Rules.{rules}
-use Rattle.quote.proofs.stepping.first_waiting.Reads as reads
-use Rattle.quote.proofs.stepping.first_waiting.Lts as lts
-use Rattle.quote.proofs.stepping.arrived.Reads as arrived-reads
-use Rattle.quote.proofs.stepping.next_given.Reads as next-given-reads
-use Rattle.turn.proofs.item_at.Reads as item-at-reads
-use Rattle.turn.proofs.joints_in.Reads as joints-in-reads
 use Rattle.quote.proofs.stepping.first_waiting.Goals as goal
 
 pub next_given-requires : goal.next_given-requires

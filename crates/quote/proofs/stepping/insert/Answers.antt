@@ -1,10 +1,5 @@
 use borrow.Author.Tests.{eq-eqb, ne_eqb}
 use Rattle.quote.specs.QuotationSteps.{inserting, if_inserted}
-use borrow.Author.Rules.{rules}
-use Rattle.quote.proofs.stepping.insert.Reads as reads
-use Rattle.quote.proofs.stepping.insert.Lts as lts
-use Rattle.path.proofs.put_joints.Reads as put-joints-reads
-use Rattle.quote.proofs.stepping.with_middle.Reads as with-middle-reads
 use Rattle.quote.proofs.stepping.insert.Goals as goal
 
 pub returns-then-s-eq-MOST : goal.returns-then-s-eq-MOST

@@ -1,11 +1,5 @@
 use native.Mathlib.Omega.{arith}
 use Rattle.quote.proofs.Kept.{move_on_needs}
-use borrow.Author.Rules.{rules}
-use Rattle.quote.proofs.stepping.move_on.Reads as reads
-use Rattle.quote.proofs.stepping.move_on.Lts as lts
-use Rattle.quote.proofs.stepping.end_after.Reads as end-after-reads
-use Rattle.quote.proofs.stepping.evaluated.Reads as evaluated-reads
-use Rattle.quote.proofs.stepping.past.Reads as past-reads
 use Rattle.quote.proofs.stepping.move_on.Goals as goal
 
 pub past-s-requires : goal.past-s-requires

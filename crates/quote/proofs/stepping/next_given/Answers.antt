@@ -1,9 +1,6 @@
 use native.Mathlib.Omega.{arith}
 use borrow.Author.Tests.{lt-ltb, le-ltb}
 use Rattle.quote.specs.QuotationSteps.{next_given}
-use borrow.Author.Rules.{rules}
-use Rattle.quote.proofs.stepping.next_given.Reads as reads
-use Rattle.quote.proofs.stepping.next_given.Lts as lts
 use Rattle.quote.proofs.stepping.next_given.Goals as goal
 
 pub returns-then-next-count : goal.returns-then-next-count

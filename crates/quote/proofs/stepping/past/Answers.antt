@@ -1,8 +1,5 @@
 use borrow.Author.Tests.{eq-eqb, ne_eqb}
 use Rattle.quote.specs.QuotationSteps.{past}
-use borrow.Author.Rules.{rules}
-use Rattle.quote.proofs.stepping.past.Reads as reads
-use Rattle.quote.proofs.stepping.past.Lts as lts
 use Rattle.quote.proofs.stepping.past.Goals as goal
 
 pub returns-then-s-eq-STACK : goal.returns-then-s-eq-STACK

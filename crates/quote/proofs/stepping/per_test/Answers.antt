@@ -1,7 +1,5 @@
 use mathlib.Core.Path.{refl}
 use Rattle.quote.specs.Quotation.{per_test}
-use Rattle.quote.proofs.stepping.per_test.Reads as reads
-use Rattle.quote.proofs.stepping.per_test.Lts as lts
 use Rattle.quote.proofs.stepping.per_test.Goals as goal
 
 pub returns : goal.returns

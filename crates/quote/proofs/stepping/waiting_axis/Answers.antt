@@ -1,7 +1,5 @@
 use borrow.Author.Tests.{eq-eqb, ne_eqb}
 use Rattle.quote.specs.QuotationSteps.{waiting_axis}
-use Rattle.quote.proofs.stepping.waiting_axis.Reads as reads
-use Rattle.quote.proofs.stepping.waiting_axis.Lts as lts
 use Rattle.quote.proofs.stepping.waiting_axis.Goals as goal
 
 pub returns-then-top-eq-STACK : goal.returns-then-top-eq-STACK

@@ -1,5 +1,4 @@
 use Rattle.writer.specs.Checking.{in_order}
-use borrow.Author.Rules.{rules}
 use Rattle.writer.proofs.checking.in_order.Goals as goal
 
 pub returns : goal.returns

@@ -1,5 +1,4 @@
 use native.Mathlib.Omega.{arith}
-use borrow.Author.Rules.{rules}
 use Rattle.job.proofs.Written.{length_put}
 use Rattle.writer.proofs.Texts as Laws
 use Rattle.writer.proofs.writing.put_chain.Goals as goal

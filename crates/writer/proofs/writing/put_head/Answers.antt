@@ -1,6 +1,5 @@
 use lib.ListN.{length-set}
 use native.Mathlib.Omega.{arith}
-use borrow.Author.Rules.{rules}
 use Rattle.job.proofs.Written.{length_put}
 use Rattle.writer.proofs.Texts as Laws
 use Rattle.writer.proofs.writing.put_head.Goals as goal

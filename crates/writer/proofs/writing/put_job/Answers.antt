@@ -3,7 +3,6 @@ use Rattle.writer.proofs.Parts.{record_width}
 use Rattle.writer.specs.Writing.{record_of}
 use Rattle.writer.specs.Checking.{job_length}
 use native.Mathlib.Omega.{arith}
-use borrow.Author.Rules.{rules}
 use Rattle.job.proofs.Written.{length_put}
 use Rattle.writer.proofs.Texts as Laws
 use Rattle.writer.proofs.writing.put_job.Goals as goal

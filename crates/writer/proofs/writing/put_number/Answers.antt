@@ -1,5 +1,4 @@
 use Rattle.writer.specs.Writing.{number_bytes}
-use borrow.Author.Rules.{rules}
 use Rattle.writer.proofs.writing.put_number.Goals as goal
 
 pub returns : goal.returns

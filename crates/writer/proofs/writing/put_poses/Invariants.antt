@@ -1,7 +1,6 @@
 use Prim.Native.Nat.{◌-◌}
-use mathlib.Core.Path.{◌≡◌, refl}
+use mathlib.Core.Path.{◌≡◌}
 use lib.ListN.{length}
-use native.Mathlib.Omega.{arith}
 use Rattle.writer.proofs.Texts as Laws
 use Rattle.writer.proofs.writing.put_poses.Given as goal
 

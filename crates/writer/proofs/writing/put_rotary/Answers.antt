@@ -1,5 +1,4 @@
 use native.Mathlib.Omega.{arith}
-use borrow.Author.Rules.{rules}
 use Rattle.writer.proofs.Reading.{rest_length}
 use Rattle.writer.proofs.Texts as Laws
 use Rattle.writer.proofs.writing.put_rotary.Goals as goal

@@ -1,4 +1,3 @@
-use borrow.Author.Rules.{rules}
 use Rattle.writer.proofs.Texts as Laws
 use Rattle.writer.proofs.writing.put_trailer.Goals as goal
 

@@ -1,6 +1,5 @@
-use Prim.Native.Nat.{◌-◌}
 use native.Mathlib.Omega.{arith}
-use Rattle.writer.proofs.Texts.{Wholes, wholes_start, wholes_step, wholes_end}
+use Rattle.writer.proofs.Texts.{wholes_start, wholes_step, wholes_end}
 use Rattle.writer.proofs.writing.put_whole.Goals as goal
 
 pub loop-i-init : goal.loop-i-init

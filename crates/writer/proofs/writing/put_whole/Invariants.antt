@@ -1,6 +1,5 @@
 use Prim.Native.Nat.{◌-◌}
-use native.Mathlib.Omega.{arith}
-use Rattle.writer.proofs.Texts.{Wholes, wholes_start, wholes_step, wholes_end}
+use Rattle.writer.proofs.Texts.{Wholes}
 use Rattle.writer.proofs.writing.put_whole.Given as goal
 
 abbrev pub invariant-loop-i : goal.invariant-loop-i
