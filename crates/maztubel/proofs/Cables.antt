@@ -8,10 +8,8 @@ use lib.Ieee.{Float}
 use lib.ListN.{length}
 use Rattle.refusal.specs.Numbers.{refusal, lengths_differ}
 use Rattle.chain.specs.declared.ChainRead.{ChainRead}
-use Rattle.chain.specs.declared.ChainRead.TheVariants as ChainRead
 use Rattle.chain.specs.ChainBytes.{read_chain}
 use Rattle.job.specs.declared.Cable.{Cable}
-use Rattle.job.specs.declared.Cable.TheVariants as Cable
 use Rattle.job.specs.Cable.{cable_number}
 use Rattle.job.proofs.CableLaws.{cable_largest}
 use Rattle.maztubel.specs.JobEntries.{cable_read, cable_of, CablePromise}

@@ -15,13 +15,10 @@ use Rattle.refusal.specs.declared.Refusal.{Refusal}
 use Rattle.refusal.specs.Numbers as Numbers
 use Rattle.geometry.specs.declared.Vec3.{Vec3}
 use Rattle.geometry.specs.declared.Direction.{Direction}
-use Rattle.geometry.specs.declared.Direction.TheVariants as Direction
 use Rattle.geometry.specs.Vector.{cross, norm}
 use Rattle.geometry.specs.Direction.{all_finite, unit_direction, along}
 use Rattle.chain.specs.declared.ChainRead.{ChainRead}
-use Rattle.chain.specs.declared.ChainRead.TheVariants as ChainRead
 use Rattle.chain.specs.declared.Checked.{Checked}
-use Rattle.chain.specs.declared.Checked.TheVariants as Checked
 use Rattle.chain.specs.declared.Joints.{Joints}
 use Rattle.chain.specs.declared.Kinematics.{Kinematics}
 use Rattle.chain.specs.declared.RotaryJoint.{RotaryJoint}
@@ -34,7 +31,6 @@ use Rattle.inverse.specs.AxisMap.{axis_map_of}
 use Rattle.inverse.specs.declared.Angles.{Angles}
 use Rattle.path.specs.declared.Bounds.{Bounds}
 use Rattle.path.specs.declared.Candidate.{Candidate}
-use Rattle.path.specs.declared.Candidate.TheVariants as Candidate
 use Rattle.path.specs.declared.Frame.{Frame}
 use Rattle.path.specs.declared.Frame.TheVariants.{Singular, Regular}
 use Rattle.path.specs.declared.PoseAnswer.{PoseAnswer}
@@ -55,7 +51,6 @@ use Rattle.machine.specs.declared.Divided.TheVariants.{Done, TooMany}
 use Rattle.middle.specs.declared.Tolerances.{Tolerances}
 use Rattle.turn.specs.Items.{space_in}
 use Rattle.divide.specs.declared.Division.{Division}
-use Rattle.divide.specs.declared.Division.TheVariants as Division
 use Rattle.divide.specs.Checking.{four_whole, checks_in_order, division_check}
 use Rattle.divide.specs.Subdividing.{DivisionAnswer, Kept, AtPose, Cleared, Halved, division_in, clearing, after_solving, subdivide_path, three_whole, solved_path, solve_and_divide}
 use Rattle.divide.specs.Subdividing as Ways

@@ -3,7 +3,6 @@ use mathlib.Core.Path.{◌≡◌, refl}
 use mathlib.Core.List.{List}
 use Prim.Native.Nat.{ℕ}
 use Rattle.job.specs.declared.JobRead.{JobRead}
-use Rattle.job.specs.declared.JobRead.TheVariants as JobRead
 use Rattle.job.specs.JobBytes.{read_job}
 use Rattle.job.proofs.JobChain.{one_chain}
 use Rattle.maztubel.specs.JobEntries.{ChainPromise}

@@ -2,13 +2,12 @@
 use Prim.Native.Nat.{ℕ, ◌%◌}
 use mathlib.Core.Path.{◌≡◌, refl}
 use mathlib.Core.Bool.{Bool, true, false, not, cond}
-use mathlib.Core.List.{List, [], ◌∷◌}
+use mathlib.Core.List.{List}
 use lib.Dec.{eqb}
 use lib.Ieee.{Float}
 use lib.ListN.{length}
 use Rattle.refusal.specs.Numbers.{refusal, lengths_differ}
 use Rattle.chain.specs.declared.ChainRead.{ChainRead}
-use Rattle.chain.specs.declared.ChainRead.TheVariants as ChainRead
 use Rattle.chain.specs.declared.Kinematics.{Kinematics}
 use Rattle.chain.specs.declared.Checked.TheVariants as Checked
 use Rattle.chain.specs.ChainBytes.{read_chain}

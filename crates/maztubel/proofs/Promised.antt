@@ -6,7 +6,6 @@ use lib.ListN.{length}
 use lib.Ieee.{Float}
 use Rattle.refusal.specs.Numbers.{refusal, lengths_differ}
 use Rattle.chain.specs.declared.ChainRead.{ChainRead}
-use Rattle.chain.specs.declared.ChainRead.TheVariants as ChainRead
 use Rattle.chain.specs.ChainBytes.{read_chain}
 use Rattle.path.specs.Solving.{Kept}
 use Rattle.path.specs.declared.Start.{Start}

@@ -9,14 +9,12 @@ use lib.Ieee.{Float}
 use Rattle.refusal.specs.Numbers.{refusal, lengths_differ}
 use Rattle.refusal.specs.declared.Refusal.{Refusal}
 use Rattle.chain.specs.declared.ChainRead.{ChainRead}
-use Rattle.chain.specs.declared.ChainRead.TheVariants as ChainRead
 use Rattle.chain.specs.declared.Kinematics.{Kinematics}
 use Rattle.chain.specs.ChainBytes.{read_chain}
 use Rattle.path.specs.Solving.{whole_records}
 use Rattle.middle.specs.declared.Tolerances.{Tolerances}
 use Rattle.divide.specs.Checking.{four_whole, checks_in_order, division_check}
 use Rattle.quote.specs.declared.Quote.{Quote}
-use Rattle.quote.specs.declared.Quote.TheVariants as Quote
 use Rattle.quote.specs.Quotation.{scratch_whole, quote_check, quote_path, scratch_left}
 use Rattle.quote.proofs.Tied.{as_divided}
 use Rattle.maztubel.specs.QuoteEntries.{quote_whole, quote_read, quote_of, QuotePromise}

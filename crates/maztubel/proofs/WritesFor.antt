@@ -10,12 +10,10 @@ use lib.Ieee.{Float}
 use Rattle.refusal.specs.Numbers.{refusal, lengths_differ}
 use Rattle.refusal.specs.declared.Refusal.{Refusal}
 use Rattle.chain.specs.declared.ChainRead.{ChainRead}
-use Rattle.chain.specs.declared.ChainRead.TheVariants as ChainRead
 use Rattle.chain.specs.declared.Kinematics.{Kinematics}
 use Rattle.chain.specs.ChainBytes.{read_chain}
 use Rattle.middle.specs.declared.Tolerances.{Tolerances}
 use Rattle.writer.specs.declared.Written.{Written}
-use Rattle.writer.specs.declared.Written.TheVariants as Written
 use Rattle.writer.specs.Checking.{written_answer, written_job, ReadBack, Rewritten}
 use Rattle.writer.proofs.Passing.{accepted}
 use Rattle.maztubel.specs.WriteEntries.{write_of, job_left, WritePromise}

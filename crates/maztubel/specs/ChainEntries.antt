@@ -2,12 +2,9 @@
 use Rattle.std.specs.Prelude.{ℕ, ◌&&◌, cond, List, [], ◌∷◌, eqb, length, Float}
 use Rattle.refusal.specs.Numbers.{refusal, lengths_differ}
 use Rattle.chain.specs.declared.Checked.{Checked}
-use Rattle.chain.specs.declared.Checked.TheVariants as Checked
 use Rattle.chain.specs.declared.ChainRead.{ChainRead}
-use Rattle.chain.specs.declared.ChainRead.TheVariants as ChainRead
 use Rattle.chain.specs.declared.ToolPose.{ToolPose}
 use Rattle.chain.specs.declared.Posed.{Posed}
-use Rattle.chain.specs.declared.Posed.TheVariants as Posed
 use Rattle.chain.specs.ChainBytes.{read_chain}
 use Rattle.chain.specs.Check.{then, chain_check, chain_sizes}
 use Rattle.chain.specs.Forward.{forward_read}

@@ -2,7 +2,6 @@
 use Rattle.std.specs.Prelude.{ℕ, ◌≡◌, ◌↔◌, Bool, true, false, not, cond, ◌&&◌, List, length, Float}
 use Rattle.refusal.specs.Numbers.{refusal, served, lengths_differ, too_many_insertions, no_space}
 use Rattle.chain.specs.declared.ChainRead.{ChainRead}
-use Rattle.chain.specs.declared.ChainRead.TheVariants as ChainRead
 use Rattle.chain.specs.ChainBytes.{read_chain}
 use Rattle.path.specs.declared.Start.{Start}
 use Rattle.machine.specs.declared.Divided.{Divided}
@@ -11,7 +10,7 @@ use Rattle.divide.specs.declared.Division.{Division}
 use Rattle.divide.specs.declared.Division.TheVariants.{Refused, AtPose, Ended}
 use Rattle.middle.specs.declared.Tolerances.{Tolerances}
 use Rattle.divide.specs.Checking.{four_whole}
-use Rattle.divide.specs.Subdividing.{DivisionAnswer, Kept, division_in, subdivide_path, three_whole, solve_and_divide}
+use Rattle.divide.specs.Subdividing.{DivisionAnswer, Kept, subdivide_path, three_whole, solve_and_divide}
 use Rattle.divide.specs.Looser.{Later}
 use Rattle.divide.specs.Price.{IfSolved, SolvedAndDivided}
 use Rattle.maztubel.specs.PathEntries.{start_good, start_in}

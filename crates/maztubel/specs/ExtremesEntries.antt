@@ -1,9 +1,7 @@
 -- What the entry that asks hands back, beside the definitions of `extremes`. What is lent is kept on a refusal.
 use Rattle.std.specs.Prelude.{ℕ}
 use Rattle.chain.specs.declared.Checked.{Checked}
-use Rattle.chain.specs.declared.Checked.TheVariants as Checked
 use Rattle.extremes.specs.declared.Asked.{Asked}
-use Rattle.extremes.specs.declared.Asked.TheVariants as Asked
 
 abbrev pub asked_check : Asked → Checked
 asked_check (Asked.At i) = Checked.Passed

@@ -7,21 +7,16 @@ use Rattle.geometry.specs.Vector.{vector}
 use Rattle.refusal.specs.declared.Refusal.{Refusal}
 use Rattle.refusal.specs.Numbers.{refusal, lengths_differ, not_reachable, outside_limits}
 use Rattle.chain.specs.declared.Checked.{Checked}
-use Rattle.chain.specs.declared.Checked.TheVariants as Checked
 use Rattle.chain.specs.declared.ChainRead.{ChainRead}
-use Rattle.chain.specs.declared.ChainRead.TheVariants as ChainRead
 use Rattle.chain.specs.declared.Joints.{Joints}
 use Rattle.chain.specs.declared.ToolPose.{ToolPose}
 use Rattle.chain.specs.ChainBytes.{read_chain}
 use Rattle.inverse.specs.declared.Angles.{Angles}
 use Rattle.inverse.specs.declared.Answers.{Answers}
 use Rattle.inverse.specs.declared.Choice.{Choice}
-use Rattle.inverse.specs.declared.Choice.TheVariants as Choice
 use Rattle.inverse.specs.declared.Chosen.{Chosen}
-use Rattle.inverse.specs.declared.Chosen.TheVariants as Chosen
 use Rattle.inverse.specs.declared.Solutions.{Solutions}
 use Rattle.inverse.specs.Wraps.{angles_of}
-use Rattle.inverse.specs.Solutions.{no_solutions}
 use Rattle.inverse.specs.Inverse.{inverse, refused}
 use Rattle.inverse.specs.Choose.{choose}
 use Rattle.maztubel.specs.Lent.{vector_over}

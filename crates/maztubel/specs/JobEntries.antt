@@ -2,15 +2,11 @@
 use Rattle.std.specs.Prelude.{ℕ, ◌%◌, ◌<◌, not, cond, ◌≡◌, List, eqb, length, take, drop, Float}
 use Rattle.refusal.specs.Numbers.{refusal, lengths_differ}
 use Rattle.chain.specs.declared.Checked.{Checked}
-use Rattle.chain.specs.declared.Checked.TheVariants as Checked
 use Rattle.chain.specs.declared.ChainRead.{ChainRead}
-use Rattle.chain.specs.declared.ChainRead.TheVariants as ChainRead
 use Rattle.chain.specs.ChainBytes.{read_chain}
 use Rattle.job.specs.declared.Job.{Job}
 use Rattle.job.specs.declared.JobRead.{JobRead}
-use Rattle.job.specs.declared.JobRead.TheVariants as JobRead
 use Rattle.job.specs.declared.Cable.{Cable}
-use Rattle.job.specs.declared.Cable.TheVariants as Cable
 use Rattle.job.specs.Cable.{joint_sets, rest_of, cable_number, Largest}
 
 -- ---- a job that was read: an offset of the file with 29, a rotary with 4

@@ -5,7 +5,6 @@ use Rattle.geometry.specs.declared.Vec3.{Vec3}
 use Rattle.geometry.specs.Vector.{vector}
 use Rattle.refusal.specs.Numbers.{served}
 use Rattle.chain.specs.declared.Checked.{Checked}
-use Rattle.chain.specs.declared.Checked.TheVariants as Checked
 use Rattle.chain.specs.declared.Joints.{Joints}
 
 -- ---- a refusal, handed back

@@ -3,14 +3,11 @@ use Rattle.std.specs.Prelude.{ℕ, ◌&&◌, cond, List, [], ◌∷◌, eqb, len
 use Rattle.geometry.specs.declared.Rigid.{Rigid}
 use Rattle.refusal.specs.Numbers.{refusal, lengths_differ}
 use Rattle.chain.specs.declared.Checked.{Checked}
-use Rattle.chain.specs.declared.Checked.TheVariants as Checked
 use Rattle.chain.specs.declared.ChainRead.{ChainRead}
-use Rattle.chain.specs.declared.ChainRead.TheVariants as ChainRead
 use Rattle.chain.specs.declared.Joints.{Joints}
 use Rattle.chain.specs.declared.Kinematics.{Kinematics}
 use Rattle.chain.specs.ChainBytes.{read_chain}
 use Rattle.model.specs.declared.Placed.{Placed}
-use Rattle.model.specs.declared.Placed.TheVariants as Placed
 use Rattle.model.specs.ModelCheck.{check_model}
 use Rattle.maztubel.specs.Lent.{joints_in}
 

@@ -3,12 +3,9 @@
 use Rattle.std.specs.Prelude.{ℕ, ◌%◌, not, cond, List, eqb, length, Float}
 use Rattle.refusal.specs.Numbers.{refusal, lengths_differ}
 use Rattle.chain.specs.declared.Checked.{Checked}
-use Rattle.chain.specs.declared.Checked.TheVariants as Checked
 use Rattle.chain.specs.declared.ChainRead.{ChainRead}
-use Rattle.chain.specs.declared.ChainRead.TheVariants as ChainRead
 use Rattle.chain.specs.ChainBytes.{read_chain}
 use Rattle.meet.specs.declared.Meeting.{Meeting}
-use Rattle.meet.specs.declared.Meeting.TheVariants as Meeting
 use Rattle.meet.specs.Meeting.{links_meet}
 use Rattle.meet.specs.First.{Answered}
 

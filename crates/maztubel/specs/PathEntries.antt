@@ -1,8 +1,7 @@
 -- What the entry of a path answers, from the bytes and numbers that it is lent: first 20, then 29, then the checks of `path`.
-use Rattle.std.specs.Prelude.{ℕ, Bool, true, not, cond, ◌&&◌, ◌||◌, List, eqb, length, Float}
+use Rattle.std.specs.Prelude.{ℕ, Bool, true, not, cond, ◌&&◌, List, eqb, length, Float}
 use Rattle.refusal.specs.Numbers.{refusal, lengths_differ}
 use Rattle.chain.specs.declared.ChainRead.{ChainRead}
-use Rattle.chain.specs.declared.ChainRead.TheVariants as ChainRead
 use Rattle.chain.specs.ChainBytes.{read_chain}
 use Rattle.path.specs.declared.Start.{Start}
 use Rattle.path.specs.declared.Start.TheVariants.{AtZero, From}

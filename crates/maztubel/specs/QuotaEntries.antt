@@ -3,7 +3,6 @@
 use Rattle.std.specs.Prelude.{ℕ, ◌≤◌, ◌<◌, ◌≡◌, ◌↔◌, List, Float, length}
 use Rattle.refusal.specs.Numbers.{unknown_shop, balance_short}
 use Rattle.chain.specs.declared.ChainRead.{ChainRead}
-use Rattle.chain.specs.declared.ChainRead.TheVariants as ChainRead
 use Rattle.chain.specs.declared.Checked.TheVariants as Checked
 use Rattle.middle.specs.declared.Tolerances.{Tolerances}
 use Rattle.divide.specs.declared.Division.{Division}

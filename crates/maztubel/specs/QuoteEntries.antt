@@ -3,15 +3,12 @@
 use Rattle.std.specs.Prelude.{ℕ, ◌≡◌, Bool, not, cond, ◌&&◌, List, length, Float}
 use Rattle.refusal.specs.Numbers.{refusal, lengths_differ, too_many_insertions, no_space}
 use Rattle.chain.specs.declared.Checked.{Checked}
-use Rattle.chain.specs.declared.Checked.TheVariants as Checked
 use Rattle.chain.specs.declared.ChainRead.{ChainRead}
-use Rattle.chain.specs.declared.ChainRead.TheVariants as ChainRead
 use Rattle.chain.specs.ChainBytes.{read_chain}
 use Rattle.path.specs.Solving.{whole_records}
 use Rattle.middle.specs.declared.Tolerances.{Tolerances}
 use Rattle.quote.specs.declared.Figures.{Figures}
 use Rattle.quote.specs.declared.Quote.{Quote}
-use Rattle.quote.specs.declared.Quote.TheVariants as Quote
 use Rattle.quote.specs.Quotation.{figures, scratch_whole, quote_path}
 use Rattle.quote.specs.AsDivided.{AsDivided}
 use Rattle.maztubel.specs.Lent.{number_in, place_in, letter_in}

@@ -4,12 +4,10 @@ use Rattle.std.specs.Prelude.{ℕ, ◌≡◌, ◌&&◌, cond, List, eqb, ltb, le
 use Rattle.refusal.specs.declared.Refusal.{Refusal}
 use Rattle.refusal.specs.Numbers.{refusal, tolerance}
 use Rattle.chain.specs.declared.ChainRead.{ChainRead}
-use Rattle.chain.specs.declared.ChainRead.TheVariants as ChainRead
 use Rattle.chain.specs.declared.ToolPose.{ToolPose}
 use Rattle.chain.specs.ChainBytes.{read_chain}
 use Rattle.inverse.specs.declared.Choice.{Choice}
 use Rattle.inverse.specs.declared.Chosen.{Chosen}
-use Rattle.inverse.specs.declared.Chosen.TheVariants as Chosen
 use Rattle.divide.specs.Checking.{tolerance_good}
 use Rattle.hirth.specs.Profile.{choose_tooth}
 use Rattle.maztubel.specs.Lent.{number_in, place_in, letter_in}

@@ -3,13 +3,10 @@
 use Rattle.std.specs.Prelude.{ℕ, ◌%◌, not, cond, List, eqb, length, Float}
 use Rattle.refusal.specs.Numbers.{refusal, lengths_differ}
 use Rattle.chain.specs.declared.Checked.{Checked}
-use Rattle.chain.specs.declared.Checked.TheVariants as Checked
 use Rattle.chain.specs.declared.ChainRead.{ChainRead}
-use Rattle.chain.specs.declared.ChainRead.TheVariants as ChainRead
 use Rattle.chain.specs.ChainBytes.{read_chain}
 use Rattle.middle.specs.declared.Tolerances.{Tolerances}
 use Rattle.writer.specs.declared.Written.{Written}
-use Rattle.writer.specs.declared.Written.TheVariants as Written
 use Rattle.writer.specs.Checking.{written_answer, written_job, ReadBack, Rewritten}
 
 -- ---- the answer; `room` is how many bytes are lent

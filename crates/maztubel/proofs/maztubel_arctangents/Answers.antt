@@ -1,17 +1,15 @@
-use Prim.Native.Nat.{◌-◌, ◌<◌}
+use Prim.Native.Nat.{◌<◌}
 use native.Mathlib.Omega.{arith}
 use mathlib.Core.Path.{refl, ◌∙◌}
 use lib.ListN.{length}
 use lib.Ieee.{nan}
 use borrow.Author.Tests.{eq-eqb, ne_eqb}
 use Rattle.trig.specs.declared.Answer.TheVariants.{OutOfRange}
-use Rattle.trig.specs.Arctangent.{arctangent_of, ArctangentAnswer}
+use Rattle.trig.specs.Arctangent.{arctangent_of}
 use Rattle.trig.proofs.Laws.{arctangent_answer}
-use Rattle.lists.specs.Rows.{paired}
 use Rattle.lists.proofs.Rows.{length_paired, get_or_paired}
-use Rattle.lists.proofs.Search.{Searching, searching_start, searching_step}
-use Rattle.maztubel.specs.Answers.{refuses, EachPairRight}
-use Rattle.maztubel.proofs.Laws.{number_lengths, number_refused, number_served, Writing, writing_start, writing_step, writing_end}
+use Rattle.lists.proofs.Search.{searching_start, searching_step}
+use Rattle.maztubel.proofs.Laws.{number_lengths, number_refused, number_served, writing_start, writing_step, writing_end}
 use Rattle.maztubel.proofs.maztubel_arctangents.Goals as goal
 
 pub returns-then-ys-n : goal.returns-then-ys-n
@@ -27,8 +25,12 @@ pub returns-then-pair_refused : goal.returns-then-pair_refused
 returns-then-pair_refused c =
     let e = c.if-ys-n.false in
     let h : c.loop-i.i < length c.args.ys.now = omega arith in
-    let told = get_or_paired arctangent_of c.args.ys.now c.args.xs.now c.loop-i.i nan nan OutOfRange e h in record { number = number_refused _ _ (rw (eq-eqb _ _ e, eq-eqb _ _ c.if-n-answers.false)) (length_paired arctangent_of _ _ e ∙ e) OutOfRange c.loop-i-test.true c.loop-i.invariant
-          (rw (told, ← c.pair_refused.ensures) c.if-pair_refused.true); lent = refl; right = (λ i h k. arctangent_answer _ _ (c.type_inv.ys i) (c.type_inv.xs i)) }
+    let told = get_or_paired arctangent_of c.args.ys.now c.args.xs.now c.loop-i.i nan nan OutOfRange e h in record {
+      number = number_refused _ _ (rw (eq-eqb _ _ e, eq-eqb _ _ c.if-n-answers.false)) (length_paired arctangent_of _ _ e ∙ e) OutOfRange c.loop-i-test.true c.loop-i.invariant
+          (rw (told, ← c.pair_refused.ensures) c.if-pair_refused.true);
+      lent = refl;
+      right = (λ i h k. arctangent_answer _ _ (c.type_inv.ys i) (c.type_inv.xs i));
+    }
 
 pub loop-i-preserved : goal.loop-i-preserved
 loop-i-preserved c =

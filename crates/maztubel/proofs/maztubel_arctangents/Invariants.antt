@@ -1,17 +1,9 @@
-use Prim.Native.Nat.{◌-◌, ◌<◌}
-use native.Mathlib.Omega.{arith}
-use mathlib.Core.Path.{refl, ◌∙◌}
-use lib.ListN.{length}
-use lib.Ieee.{nan}
-use borrow.Author.Tests.{eq-eqb, ne_eqb}
-use Rattle.trig.specs.declared.Answer.TheVariants.{OutOfRange}
-use Rattle.trig.specs.Arctangent.{arctangent_of, ArctangentAnswer}
-use Rattle.trig.proofs.Laws.{arctangent_answer}
+use Prim.Native.Nat.{◌-◌}
+use Rattle.trig.specs.Arctangent.{arctangent_of}
 use Rattle.lists.specs.Rows.{paired}
-use Rattle.lists.proofs.Rows.{length_paired, get_or_paired}
-use Rattle.lists.proofs.Search.{Searching, searching_start, searching_step}
-use Rattle.maztubel.specs.Answers.{refuses, EachPairRight}
-use Rattle.maztubel.proofs.Laws.{number_lengths, number_refused, number_served, Writing, writing_start, writing_step, writing_end}
+use Rattle.lists.proofs.Search.{Searching}
+use Rattle.maztubel.specs.Answers.{refuses}
+use Rattle.maztubel.proofs.Laws.{Writing}
 use Rattle.maztubel.proofs.maztubel_arctangents.Given as goal
 
 abbrev pub invariant-loop-i : goal.invariant-loop-i

@@ -1,15 +1,12 @@
-use Prim.Native.Nat.{◌-◌}
 use native.Mathlib.Omega.{arith}
 use mathlib.Core.Path.{refl}
-use mathlib.Core.List.{map}
 use lib.ListN.{length-map}
 use lib.Ieee.{nan}
 use borrow.Author.Tests.{eq-eqb, ne_eqb}
 use Rattle.trig.specs.declared.Answer.TheVariants.{OutOfRange}
-use Rattle.lists.proofs.Search.{Searching, searching_start, searching_step}
-use Rattle.maztubel.specs.Answers.{refuses}
+use Rattle.lists.proofs.Search.{searching_start, searching_step}
 use Rattle.maztubel.specs.Steps.{answer_of}
-use Rattle.maztubel.proofs.Laws.{told_map, number_lengths, number_refused, number_served, Writing, writing_start, writing_step, writing_end}
+use Rattle.maztubel.proofs.Laws.{told_map, number_lengths, number_refused, number_served, writing_start, writing_step, writing_end}
 use Rattle.maztubel.proofs.of_each.Goals as goal
 
 pub returns-then-n-answers : goal.returns-then-n-answers
@@ -20,8 +17,11 @@ loop-i-init c = searching_start (simp length-map (omega arith))
 
 pub returns-then-refused : goal.returns-then-refused
 returns-then-refused c =
-    let told = told_map (answer_of c.args.f) c.args.xs.now c.loop-i.i nan OutOfRange c.loop-i-test.true in record { number = number_refused _ _ (eq-eqb _ _ c.if-n-answers.false) (simp length-map) OutOfRange c.loop-i-test.true c.loop-i.invariant
-          (rw (← told, ← c.refused.ensures) c.if-refused.true); lent = refl }
+    let told = told_map (answer_of c.args.f) c.args.xs.now c.loop-i.i nan OutOfRange c.loop-i-test.true in record {
+      number = number_refused _ _ (eq-eqb _ _ c.if-n-answers.false) (simp length-map) OutOfRange c.loop-i-test.true c.loop-i.invariant
+          (rw (← told, ← c.refused.ensures) c.if-refused.true);
+      lent = refl;
+    }
 
 pub loop-i-preserved : goal.loop-i-preserved
 loop-i-preserved c =

@@ -1,15 +1,9 @@
 use Prim.Native.Nat.{◌-◌}
-use native.Mathlib.Omega.{arith}
-use mathlib.Core.Path.{refl}
 use mathlib.Core.List.{map}
-use lib.ListN.{length-map}
-use lib.Ieee.{nan}
-use borrow.Author.Tests.{eq-eqb, ne_eqb}
-use Rattle.trig.specs.declared.Answer.TheVariants.{OutOfRange}
-use Rattle.lists.proofs.Search.{Searching, searching_start, searching_step}
+use Rattle.lists.proofs.Search.{Searching}
 use Rattle.maztubel.specs.Answers.{refuses}
 use Rattle.maztubel.specs.Steps.{answer_of}
-use Rattle.maztubel.proofs.Laws.{told_map, number_lengths, number_refused, number_served, Writing, writing_start, writing_step, writing_end}
+use Rattle.maztubel.proofs.Laws.{Writing}
 use Rattle.maztubel.proofs.of_each.Given as goal
 
 abbrev pub invariant-loop-i : goal.invariant-loop-i

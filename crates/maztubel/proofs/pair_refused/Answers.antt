@@ -1,7 +1,6 @@
 use mathlib.Core.Path.{sym, ap, subst}
 use mathlib.Core.Bool.{not}
 use lib.Dec.{T}
-use lib.Ieee.{binary64, fits}
 use Rattle.maztubel.proofs.Ranges.{arctangent_ranges}
 use Rattle.maztubel.proofs.pair_refused.Goals as goal
 

@@ -1,8 +1,6 @@
-use borrow.Author.Rules.{rules}
 use mathlib.Core.Path.{sym, ap, ◌∙◌, subst}
 use mathlib.Core.Bool.{not}
 use lib.Dec.{T}
-use lib.Ieee.{binary64, fits}
 use Rattle.maztubel.proofs.Ranges.{sine_ranges, cosine_ranges, arccosine_ranges}
 use Rattle.maztubel.proofs.refused.Goals as goal
 

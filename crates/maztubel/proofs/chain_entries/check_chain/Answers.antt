@@ -1,4 +1,3 @@
-use borrow.Author.Rules.{rules}
 use Rattle.maztubel.specs.ChainEntries.{check_chain}
 use Rattle.maztubel.proofs.chain_entries.check_chain.Goals as goal
 

@@ -1,4 +1,3 @@
-use borrow.Author.Rules.{rules}
 use borrow.Author.Tests.{eq-eqb, ne_eqb}
 use Rattle.maztubel.specs.ChainEntries.{forward_of}
 use Rattle.maztubel.proofs.chain_entries.forward_of.Goals as goal

@@ -1,4 +1,3 @@
-use borrow.Author.Rules.{rules}
 use borrow.Author.Tests.{eq-eqb, ne_eqb}
 use Rattle.maztubel.proofs.Written.{pose_written}
 use Rattle.maztubel.proofs.chain_entries.put_pose.Goals as goal

@@ -1,4 +1,3 @@
-use borrow.Author.Rules.{rules}
 use Rattle.maztubel.specs.DivideEntries.{both_lengths}
 use Rattle.maztubel.proofs.divide_entries.both_lengths.Goals as goal
 

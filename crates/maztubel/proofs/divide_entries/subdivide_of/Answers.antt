@@ -1,4 +1,3 @@
-use borrow.Author.Rules.{rules}
 use mathlib.Core.Path.{sym, ◌∙◌}
 use Rattle.maztubel.proofs.DividesFor.{subdivide_lengths, subdivide_bytes, subdivide_chain}
 use Rattle.std.proofs.lemmas.Bool.{not_from_true}

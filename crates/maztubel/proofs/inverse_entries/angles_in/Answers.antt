@@ -1,4 +1,3 @@
-use borrow.Author.Rules.{rules}
 use mathlib.Core.Path.{refl}
 use Rattle.maztubel.specs.InverseEntries.{angles_in}
 use Rattle.maztubel.proofs.inverse_entries.angles_in.Goals as goal

@@ -1,4 +1,3 @@
-use borrow.Author.Rules.{rules}
 use borrow.Author.Tests.{eq-eqb, ne_eqb, lt-ltb, le-ltb}
 use Rattle.maztubel.specs.InverseEntries.{choose_of}
 use Rattle.maztubel.proofs.inverse_entries.choose_of.Goals as goal

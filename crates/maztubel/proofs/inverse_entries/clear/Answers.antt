@@ -1,9 +1,6 @@
-use Prim.Native.Nat.{◌-◌}
 use native.Mathlib.Omega.{arith}
-use mathlib.Core.Path.{◌≡◌, ◌∙◌}
-use mathlib.Core.List.{[]}
-use lib.ListN.{length}
-use Rattle.lists.proofs.Padding.{Clearing, clearing_start, clearing_step, clearing_end, padded_nil}
+use mathlib.Core.Path.{◌∙◌}
+use Rattle.lists.proofs.Padding.{clearing_start, clearing_step, clearing_end, padded_nil}
 use Rattle.float.specs.Helpers.{nought}
 use Rattle.maztubel.proofs.inverse_entries.clear.Goals as goal
 

@@ -1,9 +1,7 @@
 use Prim.Native.Nat.{◌-◌}
-use native.Mathlib.Omega.{arith}
-use mathlib.Core.Path.{◌≡◌, ◌∙◌}
-use mathlib.Core.List.{[]}
+use mathlib.Core.Path.{◌≡◌}
 use lib.ListN.{length}
-use Rattle.lists.proofs.Padding.{Clearing, clearing_start, clearing_step, clearing_end, padded_nil}
+use Rattle.lists.proofs.Padding.{Clearing}
 use Rattle.float.specs.Helpers.{nought}
 use Rattle.maztubel.proofs.inverse_entries.clear.Given as goal
 

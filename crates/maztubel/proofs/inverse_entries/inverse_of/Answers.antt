@@ -1,4 +1,3 @@
-use borrow.Author.Rules.{rules}
 use borrow.Author.Tests.{eq-eqb, ne_eqb}
 use Rattle.maztubel.specs.InverseEntries.{inverse_of}
 use Rattle.maztubel.proofs.inverse_entries.inverse_of.Goals as goal

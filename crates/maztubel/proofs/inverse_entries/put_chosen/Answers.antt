@@ -1,4 +1,3 @@
-use borrow.Author.Rules.{rules}
 use borrow.Author.Tests.{eq-eqb, ne_eqb}
 use Rattle.maztubel.proofs.Sets.{set_written}
 use Rattle.maztubel.proofs.inverse_entries.put_chosen.Goals as goal

@@ -1,7 +1,5 @@
 use native.Mathlib.Omega.{arith}
 use lib.ListN.{length-set}
-use borrow.Author.Rules.{rules}
-use mathlib.Core.Path.{refl}
 use Rattle.maztubel.specs.InverseEntries.{set_over}
 use Rattle.maztubel.proofs.inverse_entries.put_joints.Goals as goal
 

@@ -1,11 +1,10 @@
-use Prim.Native.Nat.{◌-◌}
 use native.Mathlib.Omega.{arith}
 use mathlib.Core.Path.{◌≡◌}
 use borrow.Author.Rules.{rules}
 use lib.ListN.{length}
 use Rattle.lists.proofs.Fold.{length_of_map}
 use Rattle.maztubel.specs.InverseEntries.{set_numbers}
-use Rattle.maztubel.proofs.Sets.{Placing, placing_start, placing_step, placing_end}
+use Rattle.maztubel.proofs.Sets.{placing_start, placing_step, placing_end}
 use Rattle.maztubel.proofs.inverse_entries.put_sets.Goals as goal
 
 pub loop-k-init : goal.loop-k-init

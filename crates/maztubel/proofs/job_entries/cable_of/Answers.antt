@@ -1,4 +1,3 @@
-use borrow.Author.Rules.{rules}
 use borrow.Author.Tests.{eq-eqb, ne_eqb}
 use Rattle.maztubel.specs.JobEntries.{cable_of}
 use Rattle.maztubel.proofs.job_entries.cable_of.Goals as goal

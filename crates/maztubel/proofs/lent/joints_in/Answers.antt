@@ -1,4 +1,3 @@
-use borrow.Author.Rules.{rules}
 use mathlib.Core.Path.{refl}
 use Rattle.maztubel.specs.Lent.{joints_in}
 use Rattle.maztubel.proofs.lent.joints_in.Goals as goal

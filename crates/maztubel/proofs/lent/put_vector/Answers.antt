@@ -1,6 +1,5 @@
 use native.Mathlib.Omega.{arith}
 use lib.ListN.{length-set}
-use borrow.Author.Rules.{rules}
 use mathlib.Core.Path.{refl}
 use Rattle.maztubel.specs.Lent.{vector_over}
 use Rattle.maztubel.proofs.lent.put_vector.Goals as goal

@@ -1,4 +1,3 @@
-use borrow.Author.Rules.{rules}
 use Rattle.maztubel.specs.LinkEntries.{check_model_of}
 use Rattle.maztubel.proofs.link_entries.check_model.Goals as goal
 

@@ -1,4 +1,3 @@
-use borrow.Author.Rules.{rules}
 use borrow.Author.Tests.{eq-eqb, ne_eqb}
 use Rattle.maztubel.specs.LinkEntries.{link_of}
 use Rattle.maztubel.proofs.link_entries.link_of.Goals as goal

@@ -1,4 +1,3 @@
-use borrow.Author.Rules.{rules}
 use borrow.Author.Tests.{eq-eqb, ne_eqb}
 use Rattle.maztubel.proofs.Written.{frame_written}
 use Rattle.maztubel.proofs.link_entries.put_frame.Goals as goal

@@ -1,4 +1,3 @@
-use borrow.Author.Rules.{rules}
 use borrow.Author.Tests.{eq-eqb, ne_eqb}
 use Rattle.maztubel.specs.MeetEntries.{meet_of}
 use Rattle.maztubel.proofs.meet_entries.meet_of.Goals as goal

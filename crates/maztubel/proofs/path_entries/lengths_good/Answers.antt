@@ -1,4 +1,3 @@
-use borrow.Author.Rules.{rules}
 use Rattle.maztubel.specs.PathEntries.{lengths_good}
 use Rattle.maztubel.proofs.path_entries.lengths_good.Goals as goal
 

@@ -1,4 +1,3 @@
-use borrow.Author.Rules.{rules}
 use Rattle.path.specs.Solving.{path_over}
 use Rattle.maztubel.specs.PathEntries.{solve_path_of}
 use Rattle.std.proofs.lemmas.Bool.{not_from_true}

@@ -1,4 +1,3 @@
-use borrow.Author.Rules.{rules}
 use borrow.Author.Tests.{eq-eqb, ne_eqb}
 use Rattle.maztubel.specs.PathEntries.{start_in}
 use Rattle.maztubel.proofs.path_entries.start_in.Goals as goal

@@ -1,4 +1,3 @@
-use borrow.Author.Rules.{rules}
 use mathlib.Core.Path.{sym, ◌∙◌}
 use Rattle.maztubel.proofs.QuotesFor.{quote_lengths, quote_bytes, quote_chain}
 use Rattle.std.proofs.lemmas.Bool.{not_from_true}

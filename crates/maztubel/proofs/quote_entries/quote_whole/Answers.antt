@@ -1,4 +1,3 @@
-use borrow.Author.Rules.{rules}
 use Rattle.maztubel.specs.QuoteEntries.{quote_whole}
 use Rattle.maztubel.proofs.quote_entries.quote_whole.Goals as goal
 

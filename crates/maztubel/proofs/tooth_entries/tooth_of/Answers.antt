@@ -1,4 +1,3 @@
-use borrow.Author.Rules.{rules}
 use borrow.Author.Tests.{eq-eqb, ne_eqb, lt-ltb, le-ltb}
 use Rattle.lists.proofs.Tests.{isn't, is_after_all}
 use Rattle.maztubel.specs.ToothEntries.{tooth_of}

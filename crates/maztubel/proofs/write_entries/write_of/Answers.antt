@@ -1,4 +1,3 @@
-use borrow.Author.Rules.{rules}
 use mathlib.Core.Path.{sym, ◌∙◌}
 use Rattle.maztubel.proofs.WritesFor.{write_lengths, write_bytes, write_chain}
 use Rattle.maztubel.proofs.write_entries.write_of.Goals as goal
