@@ -1,6 +1,6 @@
-//! That include/maztubel.h and src/raw.rs declare what crates/maztubel exports and nothing else: each function by its
+//! That include/maztubel.h and src/raw.rs declare what crates/maztubel_c exports and nothing else: each function by its
 //! name, its parameters in order with their names and types, and the type that it returns. A linker compares none of
-//! this.
+//! this. And that each export promises word for word what the entry of its name in crates/maztubel promises.
 
 use std::collections::BTreeMap;
 use std::fs;
@@ -140,16 +140,16 @@ fn behind_mark(text: &str, mark: &str, all: &mut Signatures) {
     }
 }
 
+/// What stands before the name of an export.
+const EXPORT: &str = "#[unsafe(no_mangle)]\npub extern \"C\" fn ";
+
 fn exported(sources: &[String]) -> Signatures {
     let mut all = Signatures::new();
     for source in sources {
-        behind_mark(source, "#[no_mangle]\npub extern \"C\" fn ", &mut all);
-        let marks = source.matches("#[no_mangle]").count();
+        behind_mark(source, EXPORT, &mut all);
+        let marks = source.matches("no_mangle").count();
         assert_eq!(marks, source.matches("extern \"C\" fn ").count());
-        assert_eq!(
-            marks,
-            source.matches("#[no_mangle]\npub extern \"C\" fn ").count()
-        );
+        assert_eq!(marks, source.matches(EXPORT).count());
     }
     all
 }
@@ -170,12 +170,32 @@ fn repository(file: &str) -> String {
 }
 
 fn sources() -> Vec<String> {
-    let folder = Path::new(env!("CARGO_MANIFEST_DIR")).join("../../crates/maztubel/src");
+    sources_of("maztubel_c")
+}
+
+fn sources_of(name: &str) -> Vec<String> {
+    let folder = Path::new(env!("CARGO_MANIFEST_DIR"))
+        .join("../../crates")
+        .join(name)
+        .join("src");
     let files = fs::read_dir(folder)
         .unwrap()
         .map(|file| file.unwrap().path());
     files
+        .filter(|file| file.extension().is_some_and(|end| end == "rt"))
         .map(|file| fs::read_to_string(file).unwrap())
+        .collect()
+}
+
+/// By the name of each entry the text of its signature and its clauses.
+fn promises(sources: &[String], mark: &str) -> BTreeMap<String, String> {
+    let pieces = sources.iter().flat_map(|source| source.split(mark).skip(1));
+    pieces
+        .filter(|piece| piece.starts_with("maztubel_"))
+        .map(|piece| {
+            let promise = cut(piece, "\n{\n").0;
+            (cut(promise, "(").0.to_owned(), promise.to_owned())
+        })
         .collect()
 }
 
@@ -190,6 +210,13 @@ fn the_header_declares_the_exports() {
 fn raw_declares_the_exports() {
     let raw = repository("bindings/rust/src/raw.rs");
     assert_eq!(declared_for_rust(&raw), exported(&sources()));
+}
+
+#[test]
+fn an_export_promises_what_its_entry_does() {
+    let exports = promises(&sources(), EXPORT);
+    assert_eq!(exports.len(), exported(&sources()).len());
+    assert_eq!(exports, promises(&sources_of("maztubel"), "\npub fn "));
 }
 
 /// A text of the header and what a fault would make of it: a parameter dropped, two of one type swapped, another type,
@@ -255,8 +282,8 @@ const CHANGES: [(&str, &str); 5] = [
         "fn maztubel_sines(xs: &mut [f64],",
     ),
     (
-        "answer: &mut f64) -> u32\n    ensures number { λ n. ⌜ n ≡ numberOf (Waves.sineOf x)",
-        "answer: &mut f64) -> u64\n    ensures number { λ n. ⌜ n ≡ numberOf (Waves.sineOf x)",
+        "answer: &mut f64) -> u32\n    ensures number { result ≡ number_of (Waves.sine_of x)",
+        "answer: &mut f64) -> u64\n    ensures number { result ≡ number_of (Waves.sine_of x)",
     ),
 ];
 
