@@ -1,12 +1,11 @@
 -- Every angle that `choose` answers is a double of at most 36,900 degrees (`chosen-angles`): so it is snapped to its nearest
 -- half degree (`chosen-nearest`), and no turn by a tooth is the fallback beyond 45,000 degrees.
-use Rattle.std.proofs.Common.{◌≡◌, ℕ, zero, suc, ◌-◌, Bool, T, List, [], ◌∷◌, ◌++◌, length, get_or, take, replicate, refl, subst, lit≤}
+use Rattle.std.proofs.Common.{◌≡◌, ℕ, zero, suc, ◌-◌, T, List, [], ◌∷◌, ◌++◌, length, get_or, take, replicate, refl, subst, lit≤}
 use lib.Ieee as Ieee
 use lib.Ieee.{Float, binary64, fits}
 use lib.Ieee.Bits.{of_bits-fits}
 use lib.Ieee.Fits.{add-fits}
 use Rattle.lists.specs.Each.{Each}
-use Rattle.lists.specs.Fold.{fold}
 use Rattle.lists.specs.Padding.{padded}
 use Rattle.lists.specs.Search.{first_hit}
 use Rattle.lists.proofs.Each.{each_more, each_both, fold_keeps}
@@ -19,7 +18,6 @@ use Rattle.geometry.specs.declared.Vec3.{Vec3}
 use Rattle.geometry.specs.Direction.{unit_direction}
 use Rattle.geometry.specs.Vector.{plus}
 use Rattle.chain.specs.declared.Checked.{Checked}
-use Rattle.chain.specs.declared.Checked.TheVariants as Checked
 use Rattle.chain.specs.declared.Joints.{Joints}
 use Rattle.chain.specs.declared.Kinematics.{Kinematics}
 use Rattle.chain.specs.declared.Prepared.{Prepared}
@@ -33,7 +31,6 @@ use Rattle.inverse.specs.declared.Choice.TheVariants.{Nearest, FirstPositive, Fi
 use Rattle.inverse.specs.declared.Chosen.{Chosen}
 use Rattle.inverse.specs.declared.Chosen.TheVariants.{At, Refused}
 use Rattle.inverse.specs.declared.RawAngles.{RawAngles}
-use Rattle.inverse.specs.declared.RawAngles.TheVariants as RawAngles
 use Rattle.inverse.specs.declared.Solutions.{Solutions}
 use Rattle.inverse.specs.Wraps.{allowed, keep_allowed, angle_candidates, has, angles_of, add_pair, add_row, add_rows, add_raw, expand_wraps, second_travel}
 use Rattle.inverse.specs.Solutions.{precedes, insert, sorted, nowhere, filled, listed, no_solutions}
@@ -42,7 +39,7 @@ use Rattle.inverse.specs.Choose as Choose
 use Rattle.inverse.specs.Choose.{best_of, nearer, nearest, first_suiting, suits, hint_of, picked, choose}
 use Rattle.inverse.proofs.AngleBounds.{PairUpTo, wrapped_within}
 use Rattle.inverse.proofs.AfterChecks.{FitAngles, hint_within_lem}
-use Rattle.hirth.specs.Snapping.{snapped, snapped_angles, NearestTooth}
+use Rattle.hirth.specs.Snapping.{snapped, NearestTooth}
 use Rattle.hirth.proofs.HalfDegree.{nearest_tooth}
 
 -- ---- lists

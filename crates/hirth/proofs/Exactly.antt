@@ -1,6 +1,6 @@
 -- The promise of the profile. `choose` answers one of its own numbers (`choose-numbers`), none of which is 19, 30 or 31; so 31
 -- comes exactly where the solution on its teeth leaves the limits or breaks the tolerance, and 19 exactly for a bad tolerance.
-use Rattle.std.proofs.Common.{◌≡◌, ℕ, Bool, true, false, cond, ◌||◌, T, eqb, ltb, ◌⊎◌, ◌↔◌, List, [], ◌∷◌, length, sym, refl, ap, ◌∙◌, subst, inl, inr, arith}
+use Rattle.std.proofs.Common.{◌≡◌, ℕ, Bool, true, false, cond, ◌||◌, T, eqb, ltb, ◌⊎◌, ◌↔◌, List, [], ◌∷◌, length, sym, refl, ap, subst, inl, inr, arith}
 use lib.Ieee.{Float}
 use lib.Ieee.Scale.{finite}
 use Rattle.geometry.specs.declared.Direction.{Direction}
@@ -10,7 +10,6 @@ use Rattle.geometry.specs.Direction.{all_finite, unit_direction}
 use Rattle.refusal.specs.declared.Refusal.{Refusal}
 use Rattle.refusal.specs.Numbers.{refusal, tolerance, parallel_rotaries, tooth_misses}
 use Rattle.chain.specs.declared.Checked.{Checked}
-use Rattle.chain.specs.declared.Checked.TheVariants as Checked
 use Rattle.chain.specs.declared.Joints.{Joints}
 use Rattle.chain.specs.declared.Kinematics.{Kinematics}
 use Rattle.chain.specs.declared.RotaryJoint.{RotaryJoint}

@@ -1,15 +1,15 @@
 -- `snapped` is the nearest half degree (`nearest-tooth`): h half degrees for the whole number h nearest to twice the angle, a
 -- half away from zero, with the sign of the angle, and +0.0 for none. Each step but the rounding to a whole number is exact.
-use Rattle.std.proofs.Common.{◌≡◌, ℕ, zero, suc, ◌+◌, ◌-◌, ◌*◌, ◌/◌, ◌^◌, ◌<◌, ◌≤◌, Bool, true, false, cond, T, ℤ, pos, negsuc, sym, refl, ap, ◌∙◌, subst, le_trans, le_of_eq, le_of_suc-le-suc, lt_of_le_of_lt, le_of_lt, mul-le-mul_right, div-lt_iff_lt-mul, le_antisymm, lt_of_mul-lt-mul_right, mul-lt-mul_of_pos_right, mul-pos, le-div_iff_mul-le, div-mul-le_self, le_of_mul-le-mul_right, arith, lit<, lit≤, pow-add}
+use Rattle.std.proofs.Common.{◌≡◌, ℕ, zero, suc, ◌+◌, ◌*◌, ◌/◌, ◌^◌, ◌<◌, ◌≤◌, Bool, true, false, T, ℤ, sym, refl, ap, ◌∙◌, subst, le_trans, le_of_eq, le_of_suc-le-suc, lt_of_le_of_lt, mul-le-mul_right, div-lt_iff_lt-mul, le_antisymm, lt_of_mul-lt-mul_right, mul-lt-mul_of_pos_right, mul-pos, le-div_iff_mul-le, div-mul-le_self, le_of_mul-le-mul_right, arith, lit<, pow-add}
 use native.Mathlib.Nat.{lt-mul-div-succ}
 use lib.Ieee.{Float, nan, inf, fin, binary64, up, down, round, add, mul, neg, of_bits, fits}
 use lib.Ieee.Bits.{of_bits-fits}
-use lib.Ieee.Fits.{down_pos, round-fits, mul-fits, neg-fits}
-use lib.Ieee.Exact.{HasValue, round_exact}
-use lib.Ieee.Scale.{finite, round_same}
+use lib.Ieee.Fits.{down_pos, mul-fits, neg-fits}
+use lib.Ieee.Exact.{HasValue}
+use lib.Ieee.Scale.{round_same}
 use Rattle.float.specs.Units.{U, Is}
 use Rattle.float.specs.Helpers.{nought, nearest_whole, round_half_away}
-use Rattle.float.proofs.Units.{Held, held, exact_is, one_float, one_number}
+use Rattle.float.proofs.Units.{held, exact_is, one_float, one_number}
 use Rattle.float.proofs.Rounding.{U_pos, mul_is}
 use Rattle.float.proofs.Zeros.{add_zero, minus_zero_add}
 use Rattle.float.proofs.UpTo.{UpTo}

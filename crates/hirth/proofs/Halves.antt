@@ -1,9 +1,9 @@
 -- What the program must not overflow: twice an angle of at most 45,000 degrees fits a word, and an entry of the table is
 -- exact as a double.
-use Rattle.std.proofs.Common.{◌≡◌, ℕ, zero, suc, ◌+◌, ◌*◌, ◌/◌, ◌<◌, ◌≤◌, min, Bool, true, false, not, ◌&&◌, ◌||◌, T, eqb, ltb, leb, List, [], ◌∷◌, get_or, ℤ, pos, sym, refl, ◌∙◌, subst, arith, lit≤, leb→le, ltb-true, lt-ltb, eqb-true}
+use Rattle.std.proofs.Common.{◌≡◌, ℕ, zero, suc, ◌+◌, ◌*◌, ◌<◌, ◌≤◌, Bool, true, false, ◌&&◌, ◌||◌, T, eqb, ltb, leb, List, [], ◌∷◌, get_or, ℤ, pos, sym, refl, ◌∙◌, subst, arith, lit≤, leb→le, ltb-true, lt-ltb, eqb-true}
 use lib.Ieee.Fits.{and_l, and_r}
 use mathlib.Core.Bool.{false≢true}
-use lib.Ieee.{Float, nan, inf, fin, up, down, lt, le, eq, of_bits, to_unsigned}
+use lib.Ieee.{Float, nan, inf, fin, up, down, lt, le, eq, of_bits}
 use lib.Ieee.Fits.{down_pos}
 use Rattle.float.specs.Helpers.{size_of}
 use Rattle.chain.specs.Check.{within}

@@ -1,12 +1,10 @@
 -- The turn by an angle that stands on a tooth, h half degrees from zero: the table's pair at h, the turn back where it is below zero.
-use Rattle.std.proofs.Common.{◌≡◌, ℕ, zero, suc, ◌+◌, ◌-◌, ◌*◌, ◌/◌, ◌^◌, ◌<◌, ◌≤◌, min, Bool, true, false, cond, not, ◌&&◌, ◌||◌, T, eqb, ltb, ◌⊎◌, ℤ, pos, sym, refl, ap, ◌∙◌, subst, inl, inr, true≢false, le_of_suc-le-suc, div-lt_iff_lt-mul, eq-or-lt_of_le, mul-pos, mul-div_cancel, arith, lit<, lt-ltb, eq-eqb}
+use Rattle.std.proofs.Common.{◌≡◌, ℕ, ◌*◌, ◌/◌, ◌<◌, ◌≤◌, min, Bool, true, false, cond, ◌&&◌, ◌||◌, T, eqb, ltb, ◌⊎◌, ℤ, sym, refl, ap, ◌∙◌, subst, inl, inr, eq-or-lt_of_le, mul-div_cancel, arith, lt-ltb, eq-eqb}
 use native.Mathlib.Nat.{eq_of_mul-eq-mul_right}
 use lib.Ieee.{Float, nan, inf, fin, binary64, up, down, mul, lt, le, eq, of_bits, to_unsigned, fits}
 use lib.Ieee.Exact.{HasValue}
 use lib.Ieee.Fits.{down_pos, add-fits, neg-fits}
 use Rattle.float.specs.Helpers.{nought, size_of}
-use Rattle.float.proofs.Zeros.{not_zero}
-use Rattle.trig.proofs.Choices.{split}
 use Rattle.trig.specs.Fraction.{negated, Near}
 use Rattle.trig.specs.Degrees.{degree_wave}
 use Rattle.trig.proofs.WaveSteps.{lt_pos, lt_neg}
@@ -15,8 +13,8 @@ use Rattle.trig.proofs.DegreeZeros.{plain_near}
 use Rattle.geometry.specs.declared.Turn.{Turn}
 use Rattle.chain.specs.Check.{within}
 use Rattle.hirth.specs.Snapping.{two, snapped, sign_at}
-use Rattle.hirth.specs.Turning.{most_halves, halves, half_turns, toward, still, tooth_turn}
-use Rattle.hirth.proofs.HalfDegree.{nearest_halves, few_halves, doubled, snapped_is, in_degrees}
+use Rattle.hirth.specs.Turning.{most_halves, halves, half_turns, toward, tooth_turn}
+use Rattle.hirth.proofs.HalfDegree.{nearest_halves, few_halves, doubled, snapped_is}
 use Rattle.hirth.proofs.Placing.{half_turns_near}
 use Rattle.hirth.proofs.ToothBack.{sine_fits, cosine_fits}
 

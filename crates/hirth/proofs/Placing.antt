@@ -1,15 +1,13 @@
 -- The table's pair, placed by the quarter turn, is right at every number of half degrees: within 2 ^ -53 of the sine and the
 -- cosine that turning is defined by. Tests over the 720 half degrees of a turn, 40 in each: one test of all meets the checker's
 -- bound of steps.
-use Rattle.std.proofs.Common.{◌≡◌, ℕ, zero, suc, ◌+◌, ◌-◌, ◌*◌, ◌/◌, ◌%◌, ◌^◌, ◌<◌, ◌≤◌, Bool, true, false, cond, ◌&&◌, T, ltb, leb, ◌⊎◌, sym, refl, ap, subst, inl, inr, le_of_suc-le-suc, not-suc-le-zero, mod-lt, eq-or-lt_of_le, arith, lit<, leb→le, ltb-false, ltb-true}
+use Rattle.std.proofs.Common.{◌≡◌, ℕ, zero, suc, ◌+◌, ◌-◌, ◌*◌, ◌%◌, ◌^◌, ◌<◌, Bool, true, false, cond, ◌&&◌, T, ltb, leb, ◌⊎◌, sym, subst, inl, inr, le_of_suc-le-suc, not-suc-le-zero, mod-lt, eq-or-lt_of_le, arith, lit<, leb→le, ltb-false, ltb-true}
 use Rattle.trig.proofs.Choices.{split}
 use lib.Ieee.{Float, nan, inf, fin, up, down, mul, neg, of_int, of_bits, round}
 use lib.Ieee.Fits.{and_l, and_r}
 use Rattle.trig.specs.Fraction.{Frac, negated, Near, Close}
-use Rattle.trig.specs.Taylor.{sin_sum, cos_sum, terms, term, rising}
 use Rattle.trig.specs.Angle.{pi_num, pi_den, nearest_k, wave}
 use Rattle.trig.specs.Degrees.{degree_wave}
-use Rattle.geometry.specs.declared.Turn.{Turn}
 use Rattle.hirth.specs.Teeth.{teeth, tooth_at, entries}
 use Rattle.hirth.specs.Turning.{unscaled, quartered, part_turn, half_turns}
 

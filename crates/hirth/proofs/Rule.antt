@@ -1,8 +1,7 @@
 -- The rule of the table, computed over all its entries at once (`teeth-right`), and cited at an index (`tooth-nearest`).
-use Rattle.std.proofs.Common.{◌≡◌, ℕ, zero, suc, ◌+◌, ◌*◌, ◌^◌, ◌<◌, Bool, ◌&&◌, T, leb, List, [], ◌∷◌, length, get_or, sym, ◌∙◌, subst, le_of_suc-le-suc, not-suc-le-zero, add-zero, add-suc, suc-add, zero-add, leb→le}
+use Rattle.std.proofs.Common.{ℕ, zero, suc, ◌+◌, ◌*◌, ◌^◌, ◌<◌, T, leb, List, [], ◌∷◌, length, get_or, sym, ◌∙◌, subst, le_of_suc-le-suc, not-suc-le-zero, add-zero, add-suc, suc-add, zero-add, leb→le}
 use lib.Ieee.Fits.{and_l, and_r}
 use Rattle.trig.specs.Fraction.{Frac}
-use Rattle.trig.specs.Taylor.{sin_sum, cos_sum, terms, term, rising}
 use Rattle.trig.specs.Angle.{pi_num, pi_den, nearest_k, wave}
 use Rattle.trig.specs.Degrees.{degree_wave}
 use Rattle.hirth.specs.Teeth.{teeth, tooth_at, half_degrees, Nearest, is_nearest, every_nearest}

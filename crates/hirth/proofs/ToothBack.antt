@@ -1,10 +1,10 @@
 -- The turn by a tooth is the turn by the negated angle with its sine negated, a zero staying +0.0, in every bit and for every
 -- float (`tooth-back`). So `inverse`'s own step for the position, which turns a table forth from the turn by which forward moves
 -- it, turns it by its tooth (`position-forth`). And no turn has a -0.0 (`tooth-sign`).
-use Rattle.std.proofs.Common.{◌≡◌, ℕ, zero, suc, ◌+◌, ◌-◌, ◌/◌, ◌%◌, Bool, true, false, cond, not, T, eqb, ℤ, pos, sym, refl, ap, ◌∙◌, subst, true≢false}
-use lib.Ieee.{Float, nan, inf, fin, binary64, up, down, add, sub, mul, neg, le, lt, eq, of_bits, of_int, to_unsigned, fits}
+use Rattle.std.proofs.Common.{◌≡◌, ℕ, Bool, true, false, cond, not, T, eqb, ℤ, sym, refl, ap, ◌∙◌}
+use lib.Ieee.{Float, nan, inf, fin, binary64, add, sub, mul, neg, le, lt, eq, of_bits, to_unsigned, fits}
 use lib.Ieee.Fits.{mul-fits, neg-fits, cond-fits}
-use Rattle.float.specs.Helpers.{nought, one, size_of}
+use Rattle.float.specs.Helpers.{nought, size_of}
 use Rattle.float.proofs.Commute.{add_commutes, mul_commutes, mul_neg}
 use Rattle.float.proofs.Order.{neg_neg}
 use Rattle.trig.specs.Degrees.{plain}
@@ -16,13 +16,11 @@ use Rattle.geometry.specs.Turn.{turned_back}
 use Rattle.chain.specs.declared.Mount.{Mount}
 use Rattle.chain.specs.declared.Mount.TheVariants.{Table, Head, Absent}
 use Rattle.chain.specs.declared.Prepared.{Prepared}
-use Rattle.chain.specs.declared.Turns.{Turns}
 use Rattle.chain.specs.Check.{within}
 use Rattle.chain.specs.Forward.{swing_from, forth_from, position}
 use Rattle.inverse.specs.declared.Angles.{Angles}
 use Rattle.inverse.specs.Inverse.{joints_from}
 use Rattle.hirth.specs.Snapping.{two}
-use Rattle.hirth.specs.Teeth.{entries}
 use Rattle.hirth.specs.Turning.{unscaled, quartered, part_turn, half_turns, toward, still, most_halves, halves, tooth_turn}
 use Rattle.hirth.specs.Profile.{tooth_swing, tooth_turns}
 

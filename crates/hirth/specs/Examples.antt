@@ -7,7 +7,7 @@ use Rattle.geometry.specs.declared.Turn.{Turn}
 use Rattle.chain.specs.Check.{within}
 use Rattle.hirth.specs.Teeth.{teeth, tooth_at, entries}
 use Rattle.hirth.specs.Snapping.{half, snapped}
-use Rattle.hirth.specs.Turning.{unscaled, quartered, part_turn, half_turns, toward, still, halves, tooth_turn}
+use Rattle.hirth.specs.Turning.{unscaled, quartered, part_turn, half_turns, toward, halves, tooth_turn}
 
 -- 0.25, the double below it, 0.2, 36,900 and 36,899.75
 quarter : Float

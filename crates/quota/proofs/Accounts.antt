@@ -13,7 +13,6 @@ use Rattle.lists.specs.Each.{Each}
 use Rattle.lists.specs.Fold.{fold}
 use Rattle.refusal.specs.Numbers.{refusal, lengths_differ, too_large, unknown_shop, balance_short}
 use Rattle.chain.specs.declared.Checked.{Checked}
-use Rattle.chain.specs.declared.Checked.TheVariants as Checked
 use Rattle.chain.specs.Check.{demand, then}
 use Rattle.divide.specs.Subdividing.{DivisionAnswer, Cleared, unless_kept}
 use Rattle.quota.specs.Quota.{shops, most_balance, balance_of, no_balances, shop_check, grant_check, charge, settled, charged_division}

@@ -1,16 +1,15 @@
 -- The checks of a shop and of a grant, and what a grant leaves in each way out.
 use Prim.Native.Nat.{ℕ, ◌+◌, ◌-◌, ◌≤◌, ◌<◌}
 use native.Mathlib.Omega.{arith}
-use mathlib.Core.Path.{◌≡◌, refl, sym, ap, ◌∙◌}
+use mathlib.Core.Path.{◌≡◌, refl, sym, ap}
 use mathlib.Core.Bool.{Bool, true, false}
 use mathlib.Core.List.{List}
 use borrow.Author.Tests.{ltb-true, leb-true, leb-false, eqb-true, le-leb, lt-leb}
 use lib.Dec.{ltb, leb, eqb}
 use lib.ListN.{length, set}
 use Rattle.refusal.specs.declared.Refusal.{Refusal}
-use Rattle.refusal.specs.Numbers.{refusal, lengths_differ, too_large, unknown_shop}
+use Rattle.refusal.specs.Numbers.{lengths_differ, too_large, unknown_shop}
 use Rattle.chain.specs.declared.Checked.{Checked}
-use Rattle.chain.specs.declared.Checked.TheVariants as Checked
 use Rattle.chain.specs.Check.{demand, then}
 use Rattle.chain.proofs.Passing.{refused_passed, then_passed, demand_passed}
 use Rattle.quota.specs.Quota.{shops, most_balance, balance_of, shop_check, grant_check}

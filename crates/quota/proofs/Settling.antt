@@ -25,14 +25,14 @@ use Rattle.middle.specs.declared.Item.{Item}
 use Rattle.middle.specs.declared.Tolerances.{Tolerances}
 use Rattle.divide.specs.declared.Division.{Division}
 use Rattle.divide.specs.declared.Division.TheVariants.{Refused, Ended}
-use Rattle.divide.specs.Subdividing.{DivisionAnswer, Kept, AtPose, Cleared, Halved, division_in, poses_left, joints_left, subdivide_path, unless_kept}
+use Rattle.divide.specs.Subdividing.{DivisionAnswer, Kept, AtPose, Cleared, Halved, division_in, poses_left, joints_left, subdivide_path}
 use Rattle.divide.specs.Looser.{NotBelow, Later}
-use Rattle.divide.specs.Price.{Checks, Price, IfSolved}
+use Rattle.divide.specs.Price.{IfSolved}
 use Rattle.divide.proofs.PriceLent.{is_ended, zero_all, refused_price}
 use Rattle.divide.proofs.Later.{refused_later}
 use Rattle.quota.specs.Quota.{balance_of, shop_check, charge, settled, charged_division}
 use Rattle.quota.specs.Calls.{Divide, grant_in, charge_in, after}
-use Rattle.quota.specs.Charged.{Short, PaidToo, Charged}
+use Rattle.quota.specs.Charged.{PaidToo, Charged}
 use Rattle.quota.proofs.Accounts.{unchanged}
 use Rattle.quota.specs.QuotaSteps.{charge_of, covers, settled_said, settled_over, settled_balances}
 

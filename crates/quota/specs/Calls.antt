@@ -4,7 +4,6 @@ use Rattle.lists.specs.Each.{Each}
 use Rattle.lists.specs.Fold.{fold}
 use Rattle.refusal.specs.Numbers.{refusal, too_large}
 use Rattle.chain.specs.declared.Checked.{Checked}
-use Rattle.chain.specs.declared.Checked.TheVariants as Checked
 use Rattle.divide.specs.Subdividing.{DivisionAnswer}
 use Rattle.quota.specs.Quota.{shops, most_balance, balance_of, no_balances, grant_check, charge, charged_division}
 

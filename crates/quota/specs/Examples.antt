@@ -1,12 +1,12 @@
 -- Worked examples: the limit and one above it, a grant of nothing, the two checks of a shop in their order, and a count
 -- just within and just above a balance.
-use Rattle.std.specs.Prelude.{◌≡◌, refl, List, [], ◌∷◌, ℕ, replicate}
-use Rattle.refusal.specs.Numbers.{refusal, lengths_differ, too_large, too_many_insertions, unknown_shop, balance_short}
+use Rattle.std.specs.Prelude.{◌≡◌, refl, [], ◌∷◌, replicate}
+use Rattle.refusal.specs.Numbers.{refusal, lengths_differ, too_large, unknown_shop, balance_short}
 use Rattle.chain.specs.declared.Checked.TheVariants.{Passed, Refused}
 use Rattle.halving.specs.Halving.{Done, TooMany}
-use Rattle.divide.specs.Subdividing.{Kept, Cleared, Halved}
+use Rattle.divide.specs.Subdividing.{Cleared, Halved}
 use Rattle.quota.specs.Quota.{no_balances, shop_check, grant_check, charge, settled, charged_division}
-use Rattle.quota.specs.Calls.{Call, Grant, Divide, grant_in, charge_in, after}
+use Rattle.quota.specs.Calls.{Grant, Divide, grant_in, charge_in, after}
 
 -- just 1,000,000,000 passes, one more does not, whatever the amount; a grant of nothing counts
 limit : (grant_check no_balances 31 1000000000 ≡ Passed) × (grant_check no_balances 31 1000000001 ≡ Refused (refusal too_large 0)) × (grant_check no_balances 0 18446744073709551615 ≡ Refused (refusal too_large 0))

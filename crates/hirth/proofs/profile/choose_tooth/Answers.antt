@@ -1,4 +1,4 @@
-use Rattle.std.proofs.Common.{sym, ◌∙◌, rules}
+use Rattle.std.proofs.Common.{sym, ◌∙◌}
 use Rattle.lists.proofs.Tests.{isn't, is_after_all}
 use Rattle.hirth.proofs.Exactly.{tolerance_first, after_choose_lem, after_solution, told}
 use Rattle.std.proofs.lemmas.Bool.{not_from_true}

@@ -1,4 +1,3 @@
-use Rattle.std.proofs.Common.{rules}
 use Rattle.hirth.specs.Profile.{close}
 use Rattle.hirth.proofs.profile.close.Goals as goal
 

@@ -1,4 +1,3 @@
-use Rattle.std.proofs.Common.{rules}
 use Rattle.hirth.proofs.profile.tooth_swing.Goals as goal
 
 pub returns-in-Table : goal.returns-in-Table

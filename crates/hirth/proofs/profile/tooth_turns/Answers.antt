@@ -1,4 +1,3 @@
-use Rattle.std.proofs.Common.{rules}
 use Rattle.hirth.specs.Profile.{tooth_turns}
 use Rattle.hirth.proofs.profile.tooth_turns.Goals as goal
 

@@ -1,4 +1,4 @@
-use Rattle.std.proofs.Common.{refl, arith, rules}
+use Rattle.std.proofs.Common.{refl, arith}
 use Rattle.hirth.specs.Teeth.{teeth, tooth_at, entries}
 use Rattle.hirth.proofs.Rule.{tooth_nearest}
 use Rattle.hirth.proofs.teeth.entries.Goals as goal

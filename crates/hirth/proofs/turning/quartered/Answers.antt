@@ -1,4 +1,4 @@
-use Rattle.std.proofs.Common.{rules, eq-eqb, ne_eqb}
+use Rattle.std.proofs.Common.{eq-eqb, ne_eqb}
 use Rattle.hirth.specs.Turning.{quartered}
 use Rattle.hirth.proofs.turning.quartered.Goals as goal
 

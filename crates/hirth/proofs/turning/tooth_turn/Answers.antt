@@ -1,4 +1,3 @@
-use Rattle.std.proofs.Common.{rules}
 use Rattle.lists.proofs.Tests.{is_after_all}
 use Rattle.hirth.proofs.Halves.{in_range}
 use Rattle.hirth.specs.Turning.{tooth_turn, halves}

@@ -1,4 +1,3 @@
-use Rattle.std.proofs.Common.{rules}
 use Rattle.hirth.specs.Turning.{toward}
 use Rattle.hirth.proofs.turning.toward.Goals as goal
 

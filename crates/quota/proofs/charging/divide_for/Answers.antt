@@ -1,4 +1,3 @@
-use borrow.Author.Rules.{rules}
 use native.Mathlib.Omega.{arith}
 use Rattle.quota.proofs.Checks.{shop_known}
 use Rattle.quota.proofs.Settling.{charged_kept, charged_settled}

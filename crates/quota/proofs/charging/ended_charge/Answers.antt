@@ -1,4 +1,3 @@
-use borrow.Author.Rules.{rules}
 use Rattle.quota.proofs.charging.ended_charge.Goals as goal
 
 pub returns-in-Done : goal.returns-in-Done

@@ -1,4 +1,3 @@
-use borrow.Author.Rules.{rules}
 use native.Mathlib.Omega.{arith}
 use Rattle.quota.proofs.Settling.{paid_for, not_paid_for}
 use Rattle.quota.proofs.charging.settle.Goals as goal

@@ -1,4 +1,3 @@
-use borrow.Author.Rules.{rules}
 use native.Mathlib.Omega.{arith}
 use mathlib.Core.Path.{sym, ◌∙◌}
 use Rattle.quota.proofs.Checks.{shop_known, shop_refused, shop_passed, grant_refused, grant_added, grant_small}
