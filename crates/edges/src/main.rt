@@ -6,12 +6,12 @@
 
 use float::Comparison;
 use std::io;
-use std::io::{BufWriter, Write};
+use std::io::Write;
 
 mod values;
 
 fn main(rt: HostRuntime) -> io::Result<()> {
-    let mut out = BufWriter::new(rt.alloc(), rt.stdout())?;
+    let mut out = rt.stdout();
     each_edge(&mut out)?;
     each_pair(&mut out)?;
     out.flush()

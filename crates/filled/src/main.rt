@@ -14,10 +14,10 @@ use geometry::Vec3;
 use machine::Subdiv;
 use middle::Item;
 use std::io;
-use std::io::{BufWriter, Write};
+use std::io::Write;
 
 fn main(rt: HostRuntime) -> io::Result<()> {
-    let mut out = BufWriter::new(rt.alloc(), rt.stdout())?;
+    let mut out = rt.stdout();
     let p = machine();
     let job = Subdiv {
         inserted: 0,
