@@ -14,6 +14,7 @@ import os
 import re
 import subprocess
 import sys
+import tempfile
 
 WORD = r"[^\s(){}.;,@\"«»\[\]]+"
 PATH = re.compile(rf"(?<![^\s(\[{{,;|])c((?: ?\.{WORD})+)")
@@ -466,9 +467,8 @@ def loop_names(of):
 def main(argv):
     crate = os.path.realpath(argv[0])
     name = os.path.basename(crate)
-    where = argv[1] if len(argv) > 1 else f"/tmp/port-names/{name}"
+    where = argv[1] if len(argv) > 1 else os.path.join(tempfile.mkdtemp(), name)
     if len(argv) < 2:
-        subprocess.run(["rm", "-rf", where])
         r = subprocess.run(["rt", "check", "--generated", where, "--old-names"], cwd=crate, capture_output=True, text=True)
         if "generated=1" not in r.stdout:
             print(r.stdout[-3000:], r.stderr[-2000:])
