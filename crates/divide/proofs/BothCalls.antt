@@ -111,7 +111,7 @@ module _ (k : Kinematics) (lent : List Float) (start : Start) (cone : Float) (to
             rw f,
             record {
               kept = λ q w. (s ∙ ap Refused (kept_one (sym f ∙ w)), (refl, refl));
-              at_pose_lem = λ q w. absurd (at_pose_kept (sym w ∙ f));
+              at_pose = λ q w. absurd (at_pose_kept (sym w ∙ f));
               refused = λ l q w c. absurd (kept_along (sym f ∙ w));
               begun = λ l w c. absurd (kept_along (sym f ∙ w));
               price = λ l w. absurd (kept_along (sym f ∙ w));
@@ -138,7 +138,7 @@ module _ (k : Kinematics) (lent : List Float) (start : Start) (cone : Float) (to
             rw f v',
             record {
               kept = λ q w. absurd (at_pose_kept (sym f ∙ w));
-              at_pose_lem = λ q w. (s ∙ ap Division.AtPose (at_pose_one (sym f ∙ w)), (zero_all (length p₀) poses u', zero_all (length j₀) joints v'));
+              at_pose = λ q w. (s ∙ ap Division.AtPose (at_pose_one (sym f ∙ w)), (zero_all (length p₀) poses u', zero_all (length j₀) joints v'));
               refused = λ l q w c. absurd (at_pose_along (sym f ∙ w));
               begun = λ l w c. absurd (at_pose_along (sym f ∙ w));
               price = λ l w. absurd (at_pose_along (sym f ∙ w));
@@ -176,7 +176,7 @@ module _ (k : Kinematics) (lent : List Float) (start : Start) (cone : Float) (to
           v,
           record {
             kept = λ q w. absurd (kept_along (sym w ∙ along));
-            at_pose_lem = λ q w. absurd (at_pose_along (sym w ∙ along));
+            at_pose = λ q w. absurd (at_pose_along (sym w ∙ along));
             refused = λ m q w c.
                 let e = along_one (sym w ∙ along) in
                 division_refused q (subst (λ (z : List Joints). division_check k tol lent (flat joint_numbers z) (length p₀) (length j₀) ≡ Checked.Refused q) e c) s u v;

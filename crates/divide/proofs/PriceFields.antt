@@ -91,7 +91,7 @@ module _ (k : Kinematics) (lent : List Float) (start : Start) (cone : Float) (to
       × (division_check k tol lent (flat joint_numbers l) (length poses₀) (length joints₀) ≡ Checked.Passed → Checks answer)
       × Price k tol (space_in (length poses₀) (length joints₀)) (given lent (flat joint_numbers l)) answer poses joints
       × Later k tol lent (flat joint_numbers l) (length poses₀) (length joints₀) answer poses joints)
-  both_says p = (p.kept, p.at_pose_lem, λ l e. (λ r. p.refused l r e, p.begun l e, p.price l e, p.later l e))
+  both_says p = (p.kept, p.at_pose, λ l e. (λ r. p.refused l r e, p.begun l e, p.price l e, p.later l e))
 
   -- "if a division is accepted, it is accepted with both tolerances finite and equal or larger", of the call of both
   -- itself: the same poses, start, cone and space

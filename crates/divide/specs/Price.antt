@@ -127,7 +127,7 @@ pub record SolvedAndDivided (k : Kinematics) (lent : List Float) (start : Start)
   -- what keeps all in `solve_path` keeps all here
   pub kept : (r : Refusal) → solved_path k lent start cone (length poses₀) (length joints₀) ≡ Kept r → (answer ≡ Refused r) × ((poses ≡ poses₀) × (joints ≡ joints₀))
   -- a refusal at a pose leaves +0.0
-  pub at_pose_lem : (r : Refusal) → solved_path k lent start cone (length poses₀) (length joints₀) ≡ AtPose r → (answer ≡ Division.AtPose r) × AllZero poses joints
+  pub at_pose : (r : Refusal) → solved_path k lent start cone (length poses₀) (length joints₀) ≡ AtPose r → (answer ≡ Division.AtPose r) × AllZero poses joints
   -- and so does division's
   pub refused : (l : List Joints) (r : Refusal) → solved_path k lent start cone (length poses₀) (length joints₀) ≡ Along l
       → division_check k tol lent (flat joint_numbers l) (length poses₀) (length joints₀) ≡ Checked.Refused r → (answer ≡ Refused r) × AllZero poses joints
