@@ -1,19 +1,23 @@
 -- Laws of the definitions of bytes: what stands past the end, a word written out, the patterns of a nan, and a run of zero bytes seen from any byte of it.
-use Prim.Native.Nat.{ℕ, zero, suc, ◌+◌, ◌-◌, ◌*◌, ◌%◌, ◌≤◌, ◌<◌}
+use Prim.Native.Nat.{ℕ, zero, suc, ◌+◌, ◌-◌, ◌*◌, ◌≤◌, ◌<◌}
 use native.Mathlib.Nat.{le_of_suc-le-suc}
 use native.Mathlib.Omega.{arith}
-use mathlib.Core.Path.{◌≡◌, refl, sym, ap, ◌∙◌}
-use mathlib.Core.Bool.{true, not, and-eq-true_iff}
+use mathlib.Core.Path.{◌≡◌, refl, sym, ◌∙◌}
+use mathlib.Core.Bool.{true, false, not, true≢false, and-eq-true_iff}
 use mathlib.Core.List.{List, [], ◌∷◌}
-use lib.Dec.{T, ltb}
+use lib.Dec.{ltb, eqb}
 use lib.ListN.{length, get_or}
-use lib.Ieee.{Float, nan, inf, fin, binary64, is_nan, of_bits, nan_bits, div}
-use lib.Ieee.Bits.{nan_bits_is, nan_bits_above}
-use borrow.Author.Tests.{ltb-false, not-true, lt-ltb, le-ltb, ne_eqb}
-use Rattle.float.specs.Helpers.{nought}
-use Rattle.chain.specs.declared.Checked.TheVariants.{Passed, Refused}
+use borrow.Author.Tests.{ltb-false, not-true, ne_eqb}
+use Rattle.std.specs.Prelude.{Err, Ok}
+use Rattle.std.proofs.Common.{cond, add-zero, ◌≢◌, Some, None, slice_range, drop, nat_lt}
+use Rattle.std.specs.List.{position, position_or_len}
+use Rattle.std.proofs.lemmas.List.{get_or-take, get_or-drop, length-take-le, length-drop}
+use Rattle.std.proofs.lemmas.Bool.Decides.{nat_tests}
+use Rattle.std.proofs.lemmas.List.Sums.{fails_before_first}
+use Rattle.std.proofs.lemmas.List.Quantifiers.{position-Some}
 use Rattle.chain.specs.Bytes.{little_endian, word}
-use Rattle.refusal.specs.Numbers.{refusal, malformed}
+use Rattle.refusal.specs.Numbers.{refusal}
+use Rattle.refusal.specs.declared.Cause.{Cause}
 use Rattle.chain.specs.Check.{one_or_two}
 use Rattle.chain.specs.ChainBytes.{zeros}
 
@@ -41,51 +45,72 @@ two_past l at h =
     let h' : length l ≤ at + 1 = omega arith in
     rw (byte_past l at h, byte_past l (at + 1) h') at (two_is l at)
 
--- which patterns are a nan's
-pub the_nan : (x : Float) → is_nan x ≡ true → x ≡ nan
-unfolding is_nan
-the_nan nan e = refl
-the_nan (inf s) e = cc
-the_nan (fin s m d) e = cc
-
--- 0.0 / 0.0
-no_number : div binary64 nought nought ≡ nan
-unfolding div of_bits
-no_number = refl
-
-pub nan_pattern : (n : ℕ) → 9218868437227405312 < n % 9223372036854775808 → div binary64 nought nought ≡ of_bits binary64 n
-nan_pattern n h = no_number ∙ sym (the_nan (of_bits binary64 n) (sym (nan_bits_is binary64 n) ∙ (nan_bits_above binary64 n ∙ lt-ltb _ _ h)))
-
-pub number_pattern : (n : ℕ) → n % 9223372036854775808 ≤ 9218868437227405312 → T (not (nan_bits binary64 n))
-number_pattern n h = rw (nan_bits_above binary64 n, le-ltb _ _ h) tt
-
 -- a count that is served
 pub at_least_one : (count : ℕ) → one_or_two count ≡ true → 1 ≤ count
 unfolding one_or_two
 at_least_one count e = ltb-false count 1 (not-true _ ((and-eq-true_iff (not (ltb count 1)) (ltb count 3)).0 e).0)
 
--- a run of n zero bytes, as one that ends at at + n
-pub zeros_start : (l : List ℕ) (at n : ℕ) → zeros l at n ≡ zeros l at (at + n - at)
-zeros_start l at n = ap (zeros l at) (omega arith)
-
-pub zeros_end : (l : List ℕ) (i e : ℕ) → e ≤ i → zeros l i (e - i) ≡ Passed
+-- ---- a run of n zero bytes, and the first of them that is none
+zeros_all : (l : List ℕ) (at n : ℕ) → ((k : ℕ) → k < n → get_or l (at + k) 0 ≡ 0) → zeros l at n ≡ Ok tt
 unfolding zeros
-zeros_end l i e h =
-    let q : e - i ≡ 0 = omega arith in
-    rw q
+zeros_all l at zero h = refl
+zeros_all l at (suc n) h =
+    let first : get_or l at 0 ≡ 0 = rw add-zero at (h 0 (omega arith)) in
+    rw first (zeros_all l (at + 1) n (λ k lt. let e : at + 1 + k ≡ at + suc k = omega arith in rw e (h (suc k) (omega arith))))
 
--- a run of zero bytes up to e, from its byte i on
-module _ (l : List ℕ) (i e : ℕ) (within : i < e) where
-  left_over : e - i ≡ suc (e - (i + 1))
-  left_over = omega arith
+zeros_until : (l : List ℕ) (at n i : ℕ) → i < n → ((k : ℕ) → k < i → get_or l (at + k) 0 ≡ 0) → get_or l (at + i) 0 ≢ 0
+    → zeros l at n ≡ Err (refusal Cause.Malformed (at + i))
+unfolding zeros
+zeros_until l at zero i lt before here = absurd (omega arith)
+zeros_until l at (suc n) zero lt before here =
+    let e : at + 0 ≡ at = omega arith in
+    let ne : get_or l at 0 ≢ 0 = rw e at here in
+    rw (e, ne_eqb _ _ ne)
+zeros_until l at (suc n) (suc i) lt before here =
+    let first : get_or l at 0 ≡ 0 = rw add-zero at (before 0 (omega arith)) in
+    let e : at + suc i ≡ at + 1 + i = omega arith in
+    rw (first, e) (zeros_until l (at + 1) n i (omega arith) (λ k below. let e : at + 1 + k ≡ at + suc k = omega arith in rw e (before (suc k) (omega arith))) (rw e at here))
 
-  pub zeros_more : get_or l i 0 ≡ 0 → zeros l i (e - i) ≡ zeros l (i + 1) (e - (i + 1))
-  unfolding zeros
-  zeros_more q = rw (left_over, q)
+zero_byte : (byte : ℕ) → not (eqb byte 0) ≡ false → byte ≡ 0
+zero_byte byte e = grind (arith, nat_tests)
 
-  pub zeros_found : (get_or l i 0 ≡ 0 → ⊥) → zeros l i (e - i) ≡ Refused (refusal malformed i)
-  unfolding zeros
-  zeros_found q = rw (left_over, ne_eqb _ _ q)
+some_byte : (byte : ℕ) → byte ≡ 0 → not (eqb byte 0) ≡ false
+some_byte byte e = rw e
+
+nowhere : (m n : ℕ) → cond (nat_lt m n) (Some m) None ≡ None → n ≤ m
+nowhere m n e = grind (arith, nat_tests)
+
+-- the same by the place of that byte within the run
+module _ (l : List ℕ) (at n : ℕ) (room : at + n ≤ length l) where
+  run : List ℕ
+  run = slice_range l at (at + n)
+
+  run_length : length run ≡ n
+  unfolding run
+  run_length =
+      let e : at + n - at ≡ n = omega arith in
+      length-take-le (at + n - at) (drop at l) (omega (arith, length-drop {A = ℕ})) ∙ e
+
+  run_at : (k : ℕ) → k < n → get_or run k 0 ≡ get_or l (at + k) 0
+  unfolding run
+  run_at k lt = get_or-take (at + n - at) (drop at l) k 0 (omega arith) ∙ get_or-drop at l k 0
+
+  pub zeros_none : position (λ byte. not (eqb byte 0)) (slice_range l at (at + n)) ≡ None → zeros l at n ≡ Ok tt
+  unfolding run
+  zeros_none e =
+      let past : n ≤ position_or_len (λ byte. not (eqb byte 0)) run = let first : length run ≤ position_or_len (λ byte. not (eqb byte 0)) run = nowhere _ _ e in omega (arith, first, run_length) in
+      zeros_all l at n
+      (λ k lt. sym (run_at k lt) ∙ zero_byte _ (fails_before_first (λ byte. not (eqb byte 0)) run k 0 (omega (arith, past))))
+
+  pub zeros_some : (i : ℕ) → position (λ byte. not (eqb byte 0)) (slice_range l at (at + n)) ≡ Some i
+      → zeros l at n ≡ Err (refusal Cause.Malformed (at + i))
+  unfolding run
+  zeros_some i e =
+      let found = position-Some (λ byte. not (eqb byte 0)) run i 0 e in
+      let lt : i < n = omega (arith, found.0, run_length) in
+      zeros_until l at n i lt
+      (λ k below. sym (run_at k (omega arith)) ∙ zero_byte _ (found.2 k below))
+      (λ z. true≢false (sym found.1 ∙ some_byte _ (run_at i lt ∙ z)))
 
 -- ---- records of w bytes in a chain
 pub room_two : (w c n : ℕ) → c ≡ 2 → 32 + w * c ≤ n → 32 + w + w ≤ n

@@ -7,26 +7,25 @@ use Prim.Native.Nat.{ℕ}
 use lib.Ieee as Ieee
 use lib.Ieee.{Float}
 use lib.Ieee.Scale.{finite}
+use Rattle.std.specs.Prelude.{Err, None, Ok, Option, Result, Some, is_ok}
 use Rattle.float.specs.Helpers.{nought}
-use Rattle.refusal.specs.Numbers.{tool_length, not_finite, too_large}
+use Rattle.refusal.specs.declared.Refusal.{Refusal}
+use Rattle.refusal.specs.declared.Cause.{Cause}
+use Rattle.chain.specs.Checked.{Checked}
 use Rattle.chain.specs.declared.Joints.{Joints}
 use Rattle.chain.specs.declared.Kinematics.{Kinematics}
 use Rattle.chain.specs.declared.Prepared.{Prepared}
-use Rattle.chain.specs.declared.Checked.{Checked}
-use Rattle.chain.specs.declared.ChainRead.{ChainRead}
-use Rattle.chain.specs.declared.Ready.{Ready}
-use Rattle.chain.specs.declared.Ready.TheVariants.{Served, Unserved}
 use Rattle.chain.specs.Check.{demand, then, chain_check, within, all_within, longest, farthest, most_turned, joints_finite, joints_within, chain_within}
 use Rattle.chain.specs.Prepared.{prepared}
 use Rattle.chain.specs.Forward.{turns_of, reach, posed, length_good, forward_sizes, forward_check, unless_refused, forward, forward_read}
 use Rattle.chain.specs.ChainBytes.{read_chain}
-use Rattle.chain.specs.Ready.{passed, ready_of, ready_read, ready}
+use Rattle.chain.specs.Ready.{ready_of, ready_read, ready}
 use Rattle.chain.specs.ReadySteps.{numbers_good, refused_by, refused_read, from_ready}
-use Rattle.chain.proofs.ReadyLaws.{both, same, is_passed_lem, within_finite, all_within_finite, over_longest, over_farthest, over_turned}
+use Rattle.chain.proofs.ReadyLaws.{both, same, ok_passed, within_finite, all_within_finite, over_longest, over_farthest, over_turned}
 
-joints_finite_lem : (j : Joints) → joints_within j ≡ true → joints_finite j ≡ true
+joints_within_finite : (j : Joints) → joints_within j ≡ true → joints_finite j ≡ true
 unfolding joints_within joints_finite
-joints_finite_lem j h =
+joints_within_finite j h =
     let p = both (all_within j.xyz farthest && within j.a0 most_turned) (within j.a1 most_turned) h in
     let q = both (all_within j.xyz farthest) (within j.a0 most_turned) p.0 in
     rw (all_within_finite farthest over_farthest j.xyz q.0, within_finite most_turned over_turned j.a0 q.1, within_finite most_turned over_turned j.a1 p.1)
@@ -53,73 +52,73 @@ any_order f n c g t w p length joints = same _ _ forth back
         let e = both c p a.1 in
         rw (length d.1, d.0, e.0, joints b.1, d.1, b.1, e.1)
 
-check_passed : (k : Kinematics) (j : Joints) (tool : Float) → passed (forward_check k j tool) ≡ (numbers_good j tool && (passed (chain_check k) && chain_within k))
+check_passed : (k : Kinematics) (j : Joints) (tool : Float) → is_ok (forward_check k j tool) ≡ (numbers_good j tool && (is_ok (chain_check k) && chain_within k))
 unfolding forward_check numbers_good length_good forward_sizes
 check_passed k j tool =
     listed (finite tool && not (Ieee.lt tool nought)) (chain_check k) (joints_finite j) (within tool longest && joints_within j && chain_within k)
-    ∙ any_order (finite tool) (not (Ieee.lt tool nought)) (passed (chain_check k)) (joints_finite j) (within tool longest) (joints_within j) (chain_within k) (within_finite longest over_longest tool) (joints_finite_lem j)
+    ∙ any_order (finite tool) (not (Ieee.lt tool nought)) (is_ok (chain_check k)) (joints_finite j) (within tool longest) (joints_within j) (chain_within k) (within_finite longest over_longest tool) (joints_within_finite j)
   where
-    listed : (a : Bool) (c : Checked) (g s : Bool) → passed (then (demand a tool_length 0) (then c (then (demand g not_finite 0) (demand s too_large 0)))) ≡ (a && (passed c && (g && s)))
+    listed : (a : Bool) (c : Checked) (g s : Bool) → is_ok (then (demand a Cause.ToolLength 0) (then c (then (demand g Cause.NotFinite 0) (demand s Cause.TooLarge 0)))) ≡ (a && (is_ok c && (g && s)))
     listed false c g s = refl
-    listed true (Checked.Refused r) g s = refl
-    listed true Checked.Passed false s = refl
-    listed true Checked.Passed true true = refl
-    listed true Checked.Passed true false = refl
+    listed true (Err r) g s = refl
+    listed true (Ok _) false s = refl
+    listed true (Ok _) true true = refl
+    listed true (Ok _) true false = refl
 
 -- ---- what an answer of `ready` tells
-abbrev is_served : Ready → Bool
-is_served (Served p) = true
-is_served Unserved = false
+abbrev is_served : Option Prepared → Bool
+is_served (Some p) = true
+is_served None = false
 
-abbrev inside : Prepared → Ready → Prepared
-inside q (Served p) = p
-inside q Unserved = q
+abbrev inside : Prepared → Option Prepared → Prepared
+inside q (Some p) = p
+inside q None = q
 
-served_parts : (b : Bool) (q p : Prepared) → cond b (Served q) Unserved ≡ Served p → (b ≡ true) × (q ≡ p)
+served_parts : (b : Bool) (q p : Prepared) → cond b (Some q) None ≡ Some p → (b ≡ true) × (q ≡ p)
 served_parts true q p h = (refl, ap (inside p) h)
 served_parts false q p h = absurd (false≢true (ap is_served h))
 
-served : (read : ChainRead) (j : Joints) (tool : Float) (p : Prepared) → ready_read read ≡ Served p → numbers_good j tool ≡ true → posed (reach p (turns_of p j.a0 j.a1) j.xyz tool) ≡ forward_read read j tool
+served : (read : Result Kinematics Refusal) (j : Joints) (tool : Float) (p : Prepared) → ready_read read ≡ Some p → numbers_good j tool ≡ true → posed (reach p (turns_of p j.a0 j.a1) j.xyz tool) ≡ forward_read read j tool
 unfolding ready_of forward
-served (ChainRead.Refused r) j tool p h n = absurd (false≢true (ap is_served h))
-served (ChainRead.Chain k) j tool p h n =
-    let s = served_parts (passed (chain_check k) && chain_within k) (prepared k) p h in
-    let e : (numbers_good j tool && (passed (chain_check k) && chain_within k)) ≡ true = rw (n, s.0) in
-    rw (is_passed_lem (forward_check k j tool) (check_passed k j tool ∙ e), s.1)
+served (Err r) j tool p h n = absurd (false≢true (ap is_served h))
+served (Ok k) j tool p h n =
+    let s = served_parts (is_ok (chain_check k) && chain_within k) (prepared k) p h in
+    let e : (numbers_good j tool && (is_ok (chain_check k) && chain_within k)) ≡ true = rw (n, s.0) in
+    rw (ok_passed (forward_check k j tool) (check_passed k j tool ∙ e), s.1)
 
-unserved : (read : ChainRead) (j : Joints) (tool : Float) → (numbers_good j tool ≡ false) ⊎ (ready_read read ≡ Unserved) → refused_read read j tool ≡ forward_read read j tool
+unserved : (read : Result Kinematics Refusal) (j : Joints) (tool : Float) → (numbers_good j tool ≡ false) ⊎ (ready_read read ≡ None) → refused_read read j tool ≡ forward_read read j tool
 unfolding forward
-unserved (ChainRead.Refused r) j tool h = refl
-unserved (ChainRead.Chain k) j tool h = go (forward_check k j tool) refl
+unserved (Err r) j tool h = refl
+unserved (Ok k) j tool h = go (forward_check k j tool) refl
   where
-    clash : (b : Bool) → (numbers_good j tool && b) ≡ true → cond b (Served (prepared k)) Unserved ≡ ready_of k → ⊥
+    clash : (b : Bool) → (numbers_good j tool && b) ≡ true → cond b (Some (prepared k)) None ≡ ready_of k → ⊥
     clash b e r = refuse h (both (numbers_good j tool) b e)
       where
-        refuse : (numbers_good j tool ≡ false) ⊎ (ready_of k ≡ Unserved) → (numbers_good j tool ≡ true) × (b ≡ true) → ⊥
+        refuse : (numbers_good j tool ≡ false) ⊎ (ready_of k ≡ None) → (numbers_good j tool ≡ true) × (b ≡ true) → ⊥
         refuse (inl n) p = true≢false (sym p.0 ∙ n)
-        refuse (inr u) p = true≢false (sym (ap (λ (z : Bool). is_served (cond z (Served (prepared k)) Unserved)) p.1) ∙ ap is_served (r ∙ u))
+        refuse (inr u) p = true≢false (sym (ap (λ (z : Bool). is_served (cond z (Some (prepared k)) None)) p.1) ∙ ap is_served (r ∙ u))
 
-    opened : cond (passed (chain_check k) && chain_within k) (Served (prepared k)) Unserved ≡ ready_of k
+    opened : cond (is_ok (chain_check k) && chain_within k) (Some (prepared k)) None ≡ ready_of k
     opened = unfold ready_of in refl
 
     go : (c : Checked) → forward_check k j tool ≡ c → refused_by c ≡ unless_refused c (posed (reach (prepared k) (turns_of (prepared k) j.a0 j.a1) j.xyz tool))
-    go (Checked.Refused r) e = refl
-    go Checked.Passed e = absurd (clash (passed (chain_check k) && chain_within k) (sym (check_passed k j tool) ∙ ap passed e) opened)
+    go (Err r) e = refl
+    go (Ok _) e = absurd (clash (is_ok (chain_check k) && chain_within k) (sym (check_passed k j tool) ∙ ap is_ok e) opened)
 
 -- the same of bytes
 module _ (bytes : List ℕ) (j : Joints) (tool : Float) where
-  pub served_from_lem : (p : Prepared) → ready bytes ≡ Served p → numbers_good j tool ≡ true → posed (reach p (turns_of p j.a0 j.a1) j.xyz tool) ≡ forward_read (read_chain bytes) j tool
+  pub served_is_read : (p : Prepared) → ready bytes ≡ Some p → numbers_good j tool ≡ true → posed (reach p (turns_of p j.a0 j.a1) j.xyz tool) ≡ forward_read (read_chain bytes) j tool
   unfolding ready
-  served_from_lem p h n = served (read_chain bytes) j tool p h n
+  served_is_read p h n = served (read_chain bytes) j tool p h n
 
   pub numbers_refused : numbers_good j tool ≡ false → refused_read (read_chain bytes) j tool ≡ forward_read (read_chain bytes) j tool
   numbers_refused h = unserved (read_chain bytes) j tool (inl h)
 
-  pub chain_refused : ready bytes ≡ Unserved → refused_read (read_chain bytes) j tool ≡ forward_read (read_chain bytes) j tool
+  pub chain_refused : ready bytes ≡ None → refused_read (read_chain bytes) j tool ≡ forward_read (read_chain bytes) j tool
   unfolding ready
   chain_refused h = unserved (read_chain bytes) j tool (inr h)
 
   -- whatever the bytes come to
-  pub from_ready_lem : (x : Ready) → ready bytes ≡ x → numbers_good j tool ≡ true → from_ready x (read_chain bytes) j tool ≡ forward_read (read_chain bytes) j tool
-  from_ready_lem (Served p) h n = served_from_lem p h n
-  from_ready_lem Unserved h n = chain_refused h
+  pub from_ready_is : (x : Option Prepared) → ready bytes ≡ x → numbers_good j tool ≡ true → from_ready x (read_chain bytes) j tool ≡ forward_read (read_chain bytes) j tool
+  from_ready_is (Some p) h n = served_is_read p h n
+  from_ready_is None h n = chain_refused h

@@ -11,23 +11,22 @@ use lib.Dec.{T, ltb, eqb, lit≤}
 use lib.ListN.{length}
 use lib.Ieee.{Float, binary64, neg, of_bits, fits}
 use lib.Ieee.Bits.{of_bits-fits}
+use Rattle.std.specs.Prelude.{Err, Ok, Result, Some}
 use Rattle.float.specs.Units.{U, Is}
 use Rattle.float.proofs.UpTo.{UpTo, double_up_to}
 use Rattle.geometry.specs.declared.Turn.{Turn}
-use Rattle.geometry.specs.declared.Direction.TheVariants.{Unit as Along}
 use Rattle.geometry.specs.Direction.{unit_direction}
 use Rattle.geometry.proofs.FitVectors.{FitVec}
 use Rattle.geometry.proofs.Range.{plain_turn, Turnable, sized_turnable, turn_served}
-use Rattle.refusal.specs.Numbers.{tool_length, not_finite, too_large}
-use Rattle.chain.specs.declared.Checked.{Checked}
-use Rattle.chain.specs.declared.ChainRead.{ChainRead}
+use Rattle.refusal.specs.declared.Refusal.{Refusal}
+use Rattle.refusal.specs.declared.Cause.{Cause}
+use Rattle.chain.specs.Checked.{Checked}
 use Rattle.chain.specs.declared.Mount.{Mount}
 use Rattle.chain.specs.declared.Mount.TheVariants.{Table, Head, Absent}
 use Rattle.chain.specs.declared.Prepared.{Prepared}
 use Rattle.chain.specs.declared.Kinematics.{Kinematics}
 use Rattle.chain.specs.declared.Joints.{Joints}
 use Rattle.chain.specs.declared.Turns.{Turns}
-use Rattle.chain.specs.declared.Posed.TheVariants.{At}
 use Rattle.chain.specs.Bytes.{byte_at, little_endian, number_at, vector_at}
 use Rattle.chain.specs.ChainBytes.{axis_field, second_field, spindle_field, length_of_chain, rotary_at, no_rotary, second_at, chain_fields, chain_at, no_chain, chain_unless, malformed, record_length, read_count, read_counted, read_chain}
 use Rattle.chain.specs.Check.{demand, then, one_or_two, chain_check, within, all_within, longest, farthest, most_turned, joints_finite, joints_within, chain_within}
@@ -38,17 +37,17 @@ use Rattle.chain.proofs.UnitAxes.{FitAxes, ChainDirections, chain_directions, ch
 use Rattle.chain.proofs.ReachDirected.{core_served, core_directed}
 
 -- ---- the angles: within 36,000 degrees, as demand 2 has it, a turn and the turn back are no fallback
-pub most_turned_lem : Is most_turned false (36000 * U)
+pub most_turned_units : Is most_turned false (36000 * U)
 unfolding of_bits U
-most_turned_lem = (refl, refl)
+most_turned_units = (refl, refl)
 
 pub within_turns : (x : Float) → within x most_turned ≡ true → Turnable x
 unfolding within
-within_turns x h = sized_turnable 36000 most_turned most_turned_lem (lit≤ tt) x h
+within_turns x h = sized_turnable 36000 most_turned most_turned_units (lit≤ tt) x h
 
 pub within_up_to : (x : Float) → T (fits binary64 x) → within x most_turned ≡ true → UpTo 36000 x
 unfolding within
-within_up_to x f h = double_up_to 36000 most_turned most_turned_lem x f h
+within_up_to x f h = double_up_to 36000 most_turned most_turned_units x f h
 
 -- ---- the turns, without the fallback
 abbrev pub plain_swing : Mount → Float → Turn
@@ -103,17 +102,17 @@ joints_turn j h =
 
 -- ---- forward
 record ForwardPassed (k : Kinematics) (j : Joints) : Type 0 where
-  chain : chain_check k ≡ Checked.Passed
+  chain : chain_check k ≡ Ok tt
   joints : joints_within j ≡ true
 
-forward_passed : (k : Kinematics) (j : Joints) (tool : Float) → forward_check k j tool ≡ Checked.Passed → ForwardPassed k j
+forward_passed : (k : Kinematics) (j : Joints) (tool : Float) → forward_check k j tool ≡ Ok tt → ForwardPassed k j
 unfolding forward_check forward_sizes
 forward_passed k j tool h =
-    let tool-good = demand (length_good tool) tool_length 0 in
-    let numbers = demand (joints_finite j) not_finite 0 in
-    let sizes = demand (within tool longest && joints_within j && chain_within k) too_large 0 in
+    let tool-good = demand (length_good tool) Cause.ToolLength 0 in
+    let numbers = demand (joints_finite j) Cause.NotFinite 0 in
+    let sizes = demand (within tool longest && joints_within j && chain_within k) Cause.TooLarge 0 in
     let a = then_passed (chain_check k) (then numbers sizes) (then_passed tool-good (then (chain_check k) (then numbers sizes)) h).1 in
-    let s = demand_passed (within tool longest && joints_within j && chain_within k) too_large 0 (then_passed numbers sizes a.1).1 in
+    let s = demand_passed (within tool longest && joints_within j && chain_within k) Cause.TooLarge 0 (then_passed numbers sizes a.1).1 in
     record { chain = a.0; joints = ((and-eq-true_iff (within tool longest) (joints_within j)).0 ((and-eq-true_iff (within tool longest && joints_within j) (chain_within k)).0 s).0).1 }
 
 -- What holds where forward's checks pass. `axes`: the axes that it turns about, and the spindle, are the unit vectors
@@ -123,17 +122,17 @@ forward_passed k j tool h =
 pub record ForwardPlain (k : Kinematics) (j : Joints) (tool : Float) : Type 0 where
   pub axes : ChainDirections k
   pub turns : turns_of (prepared k) j.a0 j.a1 ≡ plain_turns (prepared k) j.a0 j.a1
-  pub answer : forward k j tool ≡ At (forward_core (prepared k) (turns_of (prepared k) j.a0 j.a1) j.xyz tool)
-  pub directed : unit_direction (reach_axis (prepared k) (turns_of (prepared k) j.a0 j.a1)) ≡ Along (forward_core (prepared k) (turns_of (prepared k) j.a0 j.a1) j.xyz tool).axis
+  pub answer : forward k j tool ≡ Ok (forward_core (prepared k) (turns_of (prepared k) j.a0 j.a1) j.xyz tool)
+  pub directed : unit_direction (reach_axis (prepared k) (turns_of (prepared k) j.a0 j.a1)) ≡ Some (forward_core (prepared k) (turns_of (prepared k) j.a0 j.a1) j.xyz tool).axis
 
-pub forward_served : (k : Kinematics) (j : Joints) (tool : Float) → FitAxes k → forward_check k j tool ≡ Checked.Passed
-    → forward k j tool ≡ At (forward_core (prepared k) (turns_of (prepared k) j.a0 j.a1) j.xyz tool)
+pub forward_served : (k : Kinematics) (j : Joints) (tool : Float) → FitAxes k → forward_check k j tool ≡ Ok tt
+    → forward k j tool ≡ Ok (forward_core (prepared k) (turns_of (prepared k) j.a0 j.a1) j.xyz tool)
 unfolding forward
 forward_served k j tool F h =
     ap (λ (c : Checked). unless_refused c (posed (reach (prepared k) (turns_of (prepared k) j.a0 j.a1) j.xyz tool))) h
     ∙ core_served (prepared k) (chain_units k F (forward_passed k j tool h).chain) j.a0 j.a1 j.xyz tool
 
-pub forward_plain : (k : Kinematics) (j : Joints) (tool : Float) → FitAxes k → forward_check k j tool ≡ Checked.Passed → ForwardPlain k j tool
+pub forward_plain : (k : Kinematics) (j : Joints) (tool : Float) → FitAxes k → forward_check k j tool ≡ Ok tt → ForwardPlain k j tool
 forward_plain k j tool F h =
     let c = forward_passed k j tool h in
     let t = joints_turn j c.joints in
@@ -157,9 +156,9 @@ zero_fits : FitVec no_rotary.axis
 unfolding no_rotary
 zero_fits = (of_bits-fits binary64 0, of_bits-fits binary64 0, of_bits-fits binary64 0)
 
-abbrev ReadFits : ChainRead → Type 0
-ReadFits (ChainRead.Chain k) = FitAxes k
-ReadFits (ChainRead.Refused r) = Unit {0}
+abbrev ReadFits : Result Kinematics Refusal → Type 0
+ReadFits (Ok k) = FitAxes k
+ReadFits (Err r) = Unit {0}
 
 chain_fits : (w : ℕ) (bytes : List ℕ) (count : ℕ) → FitAxes (chain_at w bytes count)
 unfolding chain_at rotary_at second_at
@@ -170,14 +169,14 @@ chain_fits w bytes count = (vector_fits bytes 16, second (eqb count 2), vector_f
     second false = zero_fits
 
 unless_fits : (c : Checked) (k : Kinematics) → FitAxes k → ReadFits (chain_unless c k)
-unless_fits Checked.Passed k F = F
-unless_fits (Checked.Refused r) k F = tt
+unless_fits (Ok _) k F = F
+unless_fits (Err r) k F = tt
 
 count_fits : (w : ℕ) (bytes : List ℕ) (count : ℕ) → ReadFits (read_count w bytes count)
 unfolding read_count
 count_fits w bytes count = go (not (one_or_two count)) (not (eqb (length bytes) (length_of_chain w count)))
   where
-    go : (a b : Bool) → ReadFits (cond a (ChainRead.Chain (no_chain count)) (cond b (malformed 0) (chain_unless (chain_fields w bytes count) (chain_at w bytes count))))
+    go : (a b : Bool) → ReadFits (cond a (Ok (no_chain count)) (cond b (malformed 0) (chain_unless (chain_fields w bytes count) (chain_at w bytes count))))
     go true b = unfold no_chain in (zero_fits, zero_fits, (of_bits-fits binary64 0, of_bits-fits binary64 0, of_bits-fits binary64 0))
     go false true = tt
     go false false = unless_fits (chain_fields w bytes count) (chain_at w bytes count) (chain_fits w bytes count)
@@ -190,5 +189,5 @@ read_fits bytes = go (ltb (length bytes) 1)
     go true = tt
     go false = count_fits (record_length (length bytes) (byte_at bytes 0)) bytes (byte_at bytes 0)
 
-pub read_plain : (bytes : List ℕ) (k : Kinematics) (j : Joints) (tool : Float) → read_chain bytes ≡ ChainRead.Chain k → forward_check k j tool ≡ Checked.Passed → ForwardPlain k j tool
+pub read_plain : (bytes : List ℕ) (k : Kinematics) (j : Joints) (tool : Float) → read_chain bytes ≡ Ok k → forward_check k j tool ≡ Ok tt → ForwardPlain k j tool
 read_plain bytes k j tool e h = forward_plain k j tool (subst ReadFits e (read_fits bytes)) h

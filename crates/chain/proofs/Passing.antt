@@ -2,36 +2,37 @@
 use Prim.Native.Nat.{ℕ}
 use mathlib.Core.Path.{◌≡◌, refl, ap}
 use mathlib.Core.Bool.{Bool, true, false, false≢true}
+use Rattle.std.specs.Prelude.{Err, Ok}
+use Rattle.refusal.specs.declared.Cause.{Cause}
 use Rattle.refusal.specs.declared.Refusal.{Refusal}
+use Rattle.chain.specs.Checked.{Checked}
 use Rattle.chain.specs.Check.{demand, then}
-use Rattle.chain.specs.declared.Checked.{Checked}
-use Rattle.chain.specs.declared.Checked.TheVariants.{Passed, Refused}
 
 abbrev is_passed : Checked → Bool
-is_passed Passed = true
-is_passed (Refused r) = false
+is_passed (Ok _) = true
+is_passed (Err r) = false
 
-pub refused_passed : {r : Refusal} → Refused r ≡ Passed → ⊥
+pub refused_passed : {r : Refusal} → ◌≡◌ {A = Checked} (Err r) (Ok tt) → ⊥
 refused_passed e = false≢true (ap is_passed e)
 
-pub then_passed : (first second : Checked) → then first second ≡ Passed → (first ≡ Passed) × (second ≡ Passed)
-then_passed Passed second e = (refl, e)
-then_passed (Refused r) second e = absurd (refused_passed e)
+pub then_passed : (first second : Checked) → then first second ≡ Ok tt → (first ≡ Ok tt) × (second ≡ Ok tt)
+then_passed (Ok _) second e = (refl, e)
+then_passed (Err r) second e = absurd (refused_passed e)
 
-pub demand_passed : (ok : Bool) (number at : ℕ) → demand ok number at ≡ Passed → ok ≡ true
-demand_passed true number at e = refl
-demand_passed false number at e = absurd (refused_passed e)
+pub demand_passed : (ok : Bool) (cause : Cause) (at : ℕ) → demand ok cause at ≡ Ok tt → ok ≡ true
+demand_passed true cause at e = refl
+demand_passed false cause at e = absurd (refused_passed e)
 
 -- six checks in a row
 pub record SixPassed (a b c d e f : Checked) : Type 0 where
-  pub first : a ≡ Passed
-  pub second : b ≡ Passed
-  pub third : c ≡ Passed
-  pub fourth : d ≡ Passed
-  pub fifth : e ≡ Passed
-  pub sixth : f ≡ Passed
+  pub first : a ≡ Ok tt
+  pub second : b ≡ Ok tt
+  pub third : c ≡ Ok tt
+  pub fourth : d ≡ Ok tt
+  pub fifth : e ≡ Ok tt
+  pub sixth : f ≡ Ok tt
 
-pub six_passed : (a b c d e f : Checked) → then a (then b (then c (then d (then e f)))) ≡ Passed → SixPassed a b c d e f
+pub six_passed : (a b c d e f : Checked) → then a (then b (then c (then d (then e f)))) ≡ Ok tt → SixPassed a b c d e f
 six_passed a b c d e f h =
     let p = then_passed a (then b (then c (then d (then e f)))) h in
     let q = then_passed b (then c (then d (then e f))) p.1 in

@@ -4,21 +4,19 @@ use Prim.Native.Nat.{◌*◌}
 use mathlib.Core.Path.{◌≡◌, ap}
 use mathlib.Core.Bool.{true}
 use lib.Ieee.{Float, neg}
+use Rattle.std.specs.Prelude.{Ok, Some}
 use Rattle.geometry.specs.declared.Vec3.{Vec3}
 use Rattle.geometry.specs.declared.Turn.{Turn}
-use Rattle.geometry.specs.declared.Direction.TheVariants.{Unit as Along}
 use Rattle.geometry.specs.Turn.{rotate_vector}
 use Rattle.geometry.specs.Direction.{unit_direction, unit_or}
 use Rattle.geometry.proofs.UnitSize.{UnitSized}
 use Rattle.geometry.proofs.TurnPair.{TurnSized, turn_pair, still_sized}
 use Rattle.geometry.proofs.TurnSteps.{ω}
 use Rattle.geometry.proofs.Directed.{Out, unit_out, out_directed, none_directed, one_directed, two_directed}
-use Rattle.chain.specs.declared.Checked.TheVariants.{Passed}
 use Rattle.chain.specs.declared.Mount.{Mount}
 use Rattle.chain.specs.declared.Mount.TheVariants.{Table, Head, Absent}
 use Rattle.chain.specs.declared.Prepared.{Prepared}
 use Rattle.chain.specs.declared.Kinematics.{Kinematics}
-use Rattle.chain.specs.declared.Posed.TheVariants.{At}
 use Rattle.chain.specs.Check.{served, has_direction, chain_check}
 use Rattle.chain.specs.Prepared.{prepared}
 use Rattle.chain.specs.Forward.{swing, turns_of, by_head, by_table, head_vector, table_vector, reach_axis, reach, forward_core, posed}
@@ -58,19 +56,19 @@ reached p C a0 a1 =
     (unit_out p.spindle C.spindle_fits C.spindle)
 
 -- ---- the laws
-has_direction_lem : (v u : Vec3) → unit_direction v ≡ Along u → has_direction v ≡ true
+unit_has_direction : (v u : Vec3) → unit_direction v ≡ Some u → has_direction v ≡ true
 unfolding has_direction
-has_direction_lem v u e = ap served e
+unit_has_direction v u e = ap served e
 
-pub reach_directed : (k : Kinematics) → FitAxes k → chain_check k ≡ Passed → (a0 a1 : Float) → has_direction (reach_axis (prepared k) (turns_of (prepared k) a0 a1)) ≡ true
-reach_directed k F h a0 a1 = has_direction_lem _ _ (out_directed _ (reached (prepared k) (chain_units k F h) a0 a1))
+pub reach_directed : (k : Kinematics) → FitAxes k → chain_check k ≡ Ok tt → (a0 a1 : Float) → has_direction (reach_axis (prepared k) (turns_of (prepared k) a0 a1)) ≡ true
+reach_directed k F h a0 a1 = unit_has_direction _ _ (out_directed _ (reached (prepared k) (chain_units k F h) a0 a1))
 
 -- forward refuses an axis without a direction, and `forward_core` puts the spindle in its place: neither happens, so
 -- they give one pose
-pub core_served : (p : Prepared) → UnitChain p → (a0 a1 : Float) (xyz : Vec3) (tool : Float) → posed (reach p (turns_of p a0 a1) xyz tool) ≡ At (forward_core p (turns_of p a0 a1) xyz tool)
+pub core_served : (p : Prepared) → UnitChain p → (a0 a1 : Float) (xyz : Vec3) (tool : Float) → posed (reach p (turns_of p a0 a1) xyz tool) ≡ Ok (forward_core p (turns_of p a0 a1) xyz tool)
 unfolding posed forward_core reach unit_or
 core_served p C a0 a1 xyz tool = rw (out_directed _ (reached p C a0 a1))
 
-pub core_directed : (p : Prepared) → UnitChain p → (a0 a1 : Float) (xyz : Vec3) (tool : Float) → unit_direction (reach_axis p (turns_of p a0 a1)) ≡ Along (forward_core p (turns_of p a0 a1) xyz tool).axis
+pub core_directed : (p : Prepared) → UnitChain p → (a0 a1 : Float) (xyz : Vec3) (tool : Float) → unit_direction (reach_axis p (turns_of p a0 a1)) ≡ Some (forward_core p (turns_of p a0 a1) xyz tool).axis
 unfolding forward_core reach unit_or
 core_directed p C a0 a1 xyz tool = rw (out_directed _ (reached p C a0 a1))

@@ -9,22 +9,20 @@ use lib.ListN.{length}
 use lib.Ieee.{Float, nan, inf, fin, of_bits, le, lt, eq}
 use lib.Ieee.Scale.{finite}
 use borrow.Author.Tests.{eq-eqb, ne_eqb, le-ltb, lt-ltb, ltb-true}
+use Rattle.std.specs.Prelude.{Err, None, Ok, Option, Some, is_err, is_ok}
 use Rattle.float.specs.Helpers.{size_of}
 use Rattle.geometry.specs.declared.Vec3.{Vec3}
-use Rattle.geometry.specs.declared.Direction.{Direction}
-use Rattle.geometry.specs.declared.Direction.TheVariants.{Unit, Nowhere}
 use Rattle.geometry.specs.Direction.{all_finite, unit_direction, unit_or, along}
-use Rattle.refusal.specs.Numbers.{rotary_letter, letter_twice, chain_not_finite, rotary_axis_zero, limits_refused, spindle_zero}
-use Rattle.chain.specs.declared.Checked.{Checked}
+use Rattle.refusal.specs.declared.Cause.{Cause}
+use Rattle.chain.specs.Checked.{Checked}
 use Rattle.chain.specs.declared.RotaryJoint.{RotaryJoint}
 use Rattle.chain.specs.declared.Kinematics.{Kinematics}
 use Rattle.chain.specs.declared.Prepared.{Prepared}
-use Rattle.chain.specs.declared.Ready.TheVariants.{Served, Unserved}
 use Rattle.chain.specs.Bytes.{byte_at, vector_at}
 use Rattle.chain.specs.Check.{demand, then, served, has_direction, known_letter, other_letter, travel_good, rotary_check, second_check, chain_check, one_or_two, within, all_within, longest, farthest, most_turned, chain_within, rotary_within}
 use Rattle.chain.specs.ChainBytes.{zeros, axis_field, second_field, spindle_field, rotary_fields, second_fields, chain_fields, rotary_at, second_at, no_rotary, zero_vector, chain_at, chain_unless, no_chain, read_count, read_chain, read_counted, record_length}
 use Rattle.chain.specs.Prepared.{unit_axis, spin_of, second_spin, prepared}
-use Rattle.chain.specs.Ready.{passed, ready_of, ready_read, ready}
+use Rattle.chain.specs.Ready.{ready_of, ready_read, ready}
 use Rattle.chain.specs.ReadySteps.{rotary_good, record_good, first_good, second_good, second_axis, mount_at, second_mount, second_pivot, prepared_at, ready_counted}
 
 -- ---- booleans, and checks as booleans
@@ -41,22 +39,31 @@ same true b f g = sym (f refl)
 same false true f g = absurd (false≢true (g refl))
 same false false f g = refl
 
-pub passed_demand : (b : Bool) (n at : ℕ) → passed (demand b n at) ≡ b
+pub passed_demand : (b : Bool) (n : Cause) (at : ℕ) → is_ok (demand b n at) ≡ b
 passed_demand true n at = refl
 passed_demand false n at = refl
 
-pub passed_then : (c d : Checked) → passed (then c d) ≡ (passed c && passed d)
-passed_then Checked.Passed d = refl
-passed_then (Checked.Refused r) d = refl
+pub passed_then : (c d : Checked) → is_ok (then c d) ≡ (is_ok c && is_ok d)
+passed_then (Ok _) d = refl
+passed_then (Err r) d = refl
 
-pub is_passed_lem : (c : Checked) → passed c ≡ true → c ≡ Checked.Passed
-is_passed_lem Checked.Passed h = refl
-is_passed_lem (Checked.Refused r) h = absurd (false≢true h)
+pub ok_passed : (c : Checked) → is_ok c ≡ true → c ≡ Ok tt
+ok_passed (Ok _) h = refl
+ok_passed (Err r) h = absurd (false≢true h)
 
-pub two_checks : (c d : Checked) → passed (then c d) ≡ true → (passed c ≡ true) × (passed d ≡ true)
-two_checks c d h = both (passed c) (passed d) (sym (passed_then c d) ∙ h)
+-- what a test for a refusal says
+pub failed : (c : Checked) → is_err c ≡ true → is_ok c ≡ false
+failed (Ok _) h = absurd (false≢true h)
+failed (Err r) h = refl
 
-pub demanded : (b : Bool) (n at : ℕ) → passed (demand b n at) ≡ true → b ≡ true
+pub not_failed : (c : Checked) → is_err c ≡ false → is_ok c ≡ true
+not_failed (Ok _) h = refl
+not_failed (Err r) h = absurd (false≢true (sym h))
+
+pub two_checks : (c d : Checked) → is_ok (then c d) ≡ true → (is_ok c ≡ true) × (is_ok d ≡ true)
+two_checks c d h = both (is_ok c) (is_ok d) (sym (passed_then c d) ∙ h)
+
+pub demanded : (b : Bool) (n : Cause) (at : ℕ) → is_ok (demand b n at) ≡ true → b ≡ true
 demanded b n at h = sym (passed_demand b n at) ∙ h
 
 -- ---- what makes a test of finiteness needless
@@ -64,7 +71,7 @@ direction_finite : (v : Vec3) → has_direction v ≡ true → all_finite v ≡ 
 unfolding has_direction unit_direction
 direction_finite v h = go (all_finite v) _ h
   where
-    go : (b : Bool) (d : Direction) → served (cond (not b) Nowhere d) ≡ true → b ≡ true
+    go : (b : Bool) (d : Option Vec3) → served (cond (not b) None d) ≡ true → b ≡ true
     go true d h = refl
     go false d h = absurd (false≢true h)
 
@@ -113,11 +120,11 @@ module _ (j : RotaryJoint) (earlier i : ℕ) where
   abbrev F : Bool
   F = finite j.rest
 
-  rotary_passed : passed (rotary_check j earlier i) ≡ (K && (O && (all_finite j.axis && (D && (all_finite j.pivot && (L && F))))))
+  rotary_passed : is_ok (rotary_check j earlier i) ≡ (K && (O && (all_finite j.axis && (D && (all_finite j.pivot && (L && F))))))
   unfolding rotary_check
   rotary_passed = go (known_letter j.letter) (other_letter j.letter earlier) (all_finite j.axis) (has_direction j.axis) (all_finite j.pivot) (travel_good j.limits) (finite j.rest)
     where
-      go : (a b c d e f g : Bool) → passed (then (demand a rotary_letter i) (then (demand b letter_twice i) (then (demand c chain_not_finite i) (then (demand d rotary_axis_zero i) (then (demand e chain_not_finite i) (then (demand f limits_refused i) (demand g chain_not_finite i)))))))
+      go : (a b c d e f g : Bool) → is_ok (then (demand a Cause.RotaryLetter i) (then (demand b Cause.LetterTwice i) (then (demand c Cause.ChainNotFinite i) (then (demand d Cause.RotaryAxisZero i) (then (demand e Cause.ChainNotFinite i) (then (demand f Cause.LimitsRefused i) (demand g Cause.ChainNotFinite i)))))))
           ≡ (a && (b && (c && (d && (e && (f && g))))))
       go false b c d e f g = refl
       go true false c d e f g = refl
@@ -128,9 +135,9 @@ module _ (j : RotaryJoint) (earlier i : ℕ) where
       go true true true true true true true = refl
       go true true true true true true false = refl
 
-  pub rotary_good_lem : (passed (rotary_check j earlier i) && rotary_within j) ≡ (rotary_good j earlier && D)
+  pub rotary_good_is : (is_ok (rotary_check j earlier i) && rotary_within j) ≡ (rotary_good j earlier && D)
   unfolding rotary_good rotary_within
-  rotary_good_lem =
+  rotary_good_is =
       ap (λ (z : Bool). z && (all_within j.pivot longest && within j.rest most_turned)) rotary_passed
       ∙ go K O (all_finite j.axis) D (all_finite j.pivot) L F (all_within j.pivot longest) (within j.rest most_turned) (direction_finite j.axis) (all_within_finite longest over_longest j.pivot) (within_finite most_turned over_turned j.rest)
     where
@@ -163,13 +170,13 @@ module _ (j : RotaryJoint) (earlier i : ℕ) where
 module _ (w : ℕ) (bytes : List ℕ) where
   -- what the three calls for each rotary test, with the direction of its axis
   abbrev R : ℕ → ℕ → ℕ → Bool
-  R at earlier i = passed (rotary_fields bytes at) && (passed (rotary_check (rotary_at w bytes at) earlier i) && rotary_within (rotary_at w bytes at))
+  R at earlier i = is_ok (rotary_fields bytes at) && (is_ok (rotary_check (rotary_at w bytes at) earlier i) && rotary_within (rotary_at w bytes at))
 
-  record_good_lem : (at earlier i : ℕ) → R at earlier i ≡ (record_good w bytes at earlier && has_direction (rotary_at w bytes at).axis)
+  record_good_is : (at earlier i : ℕ) → R at earlier i ≡ (record_good w bytes at earlier && has_direction (rotary_at w bytes at).axis)
   unfolding record_good
-  record_good_lem at earlier i =
-      ap (λ (z : Bool). passed (rotary_fields bytes at) && z) (rotary_good_lem (rotary_at w bytes at) earlier i)
-      ∙ turn (passed (rotary_fields bytes at)) (rotary_good (rotary_at w bytes at) earlier) (has_direction (rotary_at w bytes at).axis)
+  record_good_is at earlier i =
+      ap (λ (z : Bool). is_ok (rotary_fields bytes at) && z) (rotary_good_is (rotary_at w bytes at) earlier i)
+      ∙ turn (is_ok (rotary_fields bytes at)) (rotary_good (rotary_at w bytes at) earlier) (has_direction (rotary_at w bytes at).axis)
     where
       turn : (a b c : Bool) → (a && (b && c)) ≡ (a && b && c)
       turn true b c = refl
@@ -212,21 +219,21 @@ any_order z f1 f2 r1 r2 a e w1 w2 g1 g2 d1 d2 first second finite = same _ _ for
         rw (x.0, f.0, k.0, g.0, l.0, finite v.1, v.1, g.1, l.1)
 
 -- the code's tests, one after another
-opened : (f s : Bool) (d1 d2 e : Direction) (v1 v2 v : Vec3) (X : Vec3 → Vec3 → Vec3 → Prepared)
-    → cond (not f) Unserved (cond (not s) Unserved (along d1 Unserved (λ a. along d2 Unserved (λ b. along e Unserved (λ c. Served (X a b c))))))
-    ≡ cond (f && (s && (served d1 && (served d2 && served e)))) (Served (X (along d1 v1 (λ u. u)) (along d2 v2 (λ u. u)) (along e v (λ u. u)))) Unserved
+opened : (f s : Bool) (d1 d2 e : Option Vec3) (v1 v2 v : Vec3) (X : Vec3 → Vec3 → Vec3 → Prepared)
+    → cond (not f) None (cond (not s) None (along d1 None (λ a. along d2 None (λ b. along e None (λ c. Some (X a b c))))))
+    ≡ cond (f && (s && (served d1 && (served d2 && served e)))) (Some (X (along d1 v1 (λ u. u)) (along d2 v2 (λ u. u)) (along e v (λ u. u)))) None
 opened false s d1 d2 e v1 v2 v X = refl
 opened true false d1 d2 e v1 v2 v X = refl
-opened true true Nowhere d2 e v1 v2 v X = refl
-opened true true (Unit a) Nowhere e v1 v2 v X = refl
-opened true true (Unit a) (Unit b) Nowhere v1 v2 v X = refl
-opened true true (Unit a) (Unit b) (Unit c) v1 v2 v X = refl
+opened true true None d2 e v1 v2 v X = refl
+opened true true (Some a) None e v1 v2 v X = refl
+opened true true (Some a) (Some b) None v1 v2 v X = refl
+opened true true (Some a) (Some b) (Some c) v1 v2 v X = refl
 
 -- the definition's, as one
-closed : (c : Checked) (k : Kinematics) → ready_read (chain_unless c k) ≡ cond (passed c && (passed (chain_check k) && chain_within k)) (Served (prepared k)) Unserved
+closed : (c : Checked) (k : Kinematics) → ready_read (chain_unless c k) ≡ cond (is_ok c && (is_ok (chain_check k) && chain_within k)) (Some (prepared k)) None
 unfolding ready_of
-closed Checked.Passed k = refl
-closed (Checked.Refused r) k = refl
+closed (Ok _) k = refl
+closed (Err r) k = refl
 
 module _ (w : ℕ) (bytes : List ℕ) where
   abbrev Read : ℕ → Kinematics
@@ -236,23 +243,23 @@ module _ (w : ℕ) (bytes : List ℕ) where
   abbrev inner : ℕ
   inner = axis_field (second_field w)
 
-  fields_passed : (count : ℕ) → passed (chain_fields w bytes count) ≡ (passed (zeros bytes 1 7) && (passed (rotary_fields bytes 8) && passed (second_fields w bytes count)))
+  fields_passed : (count : ℕ) → is_ok (chain_fields w bytes count) ≡ (is_ok (zeros bytes 1 7) && (is_ok (rotary_fields bytes 8) && is_ok (second_fields w bytes count)))
   unfolding chain_fields
   fields_passed count =
       passed_then (zeros bytes 1 7) (then (rotary_fields bytes 8) (second_fields w bytes count))
-      ∙ ap (λ (z : Bool). passed (zeros bytes 1 7) && z) (passed_then (rotary_fields bytes 8) (second_fields w bytes count))
+      ∙ ap (λ (z : Bool). is_ok (zeros bytes 1 7) && z) (passed_then (rotary_fields bytes 8) (second_fields w bytes count))
 
   check_passed : (k : Kinematics) → one_or_two k.count ≡ true
-      → passed (chain_check k) ≡ (passed (rotary_check k.first 0 0) && (passed (second_check k) && (all_finite k.spindle_axis && has_direction k.spindle_axis)))
+      → is_ok (chain_check k) ≡ (is_ok (rotary_check k.first 0 0) && (is_ok (second_check k) && (all_finite k.spindle_axis && has_direction k.spindle_axis)))
   unfolding chain_check
   check_passed k h = rw h (go (rotary_check k.first 0 0) (second_check k) (all_finite k.spindle_axis) (has_direction k.spindle_axis))
     where
-      go : (c d : Checked) (a b : Bool) → passed (then c (then d (then (demand a chain_not_finite 0) (demand b spindle_zero 0)))) ≡ (passed c && (passed d && (a && b)))
-      go (Checked.Refused r) d a b = refl
-      go Checked.Passed (Checked.Refused r) a b = refl
-      go Checked.Passed Checked.Passed false b = refl
-      go Checked.Passed Checked.Passed true true = refl
-      go Checked.Passed Checked.Passed true false = refl
+      go : (c d : Checked) (a b : Bool) → is_ok (then c (then d (then (demand a Cause.ChainNotFinite 0) (demand b Cause.SpindleZero 0)))) ≡ (is_ok c && (is_ok d && (a && b)))
+      go (Err r) d a b = refl
+      go (Ok _) (Err r) a b = refl
+      go (Ok _) (Ok _) false b = refl
+      go (Ok _) (Ok _) true true = refl
+      go (Ok _) (Ok _) true false = refl
 
   -- the code's tests
   abbrev Tests : ℕ → Bool
@@ -261,41 +268,41 @@ module _ (w : ℕ) (bytes : List ℕ) where
       && (second_good w bytes count && (served (unit_direction (vector_at bytes 16)) && (served (second_axis w bytes count) && served (unit_direction (vector_at bytes (spindle_field w count))))))
 
   -- the code's answer, with the chain prepared as `prepare` does it
-  two_answer : ready_counted w bytes 2 ≡ cond (Tests 2) (Served (prepared (Read 2))) Unserved
+  two_answer : ready_counted w bytes 2 ≡ cond (Tests 2) (Some (prepared (Read 2))) None
   unfolding ready_counted prepared spin_of second_spin unit_axis unit_or chain_at rotary_at second_at prepared_at mount_at second_mount second_pivot second_axis
   two_answer =
       opened (first_good w bytes) (second_good w bytes 2) (unit_direction (vector_at bytes 16)) (unit_direction (vector_at bytes inner)) (unit_direction (vector_at bytes (spindle_field w 2))) (vector_at bytes 16) (vector_at bytes inner)
       (vector_at bytes (spindle_field w 2)) (prepared_at w bytes 2)
 
-  one_answer : ready_counted w bytes 1 ≡ cond (Tests 1) (Served (prepared (Read 1))) Unserved
+  one_answer : ready_counted w bytes 1 ≡ cond (Tests 1) (Some (prepared (Read 1))) None
   unfolding ready_counted prepared spin_of second_spin unit_axis unit_or chain_at rotary_at second_at no_rotary prepared_at mount_at second_mount second_pivot second_axis
   one_answer =
-      opened (first_good w bytes) (second_good w bytes 1) (unit_direction (vector_at bytes 16)) (Unit zero_vector) (unit_direction (vector_at bytes (spindle_field w 1))) (vector_at bytes 16) zero_vector (vector_at bytes (spindle_field w 1))
+      opened (first_good w bytes) (second_good w bytes 1) (unit_direction (vector_at bytes 16)) (Some zero_vector) (unit_direction (vector_at bytes (spindle_field w 1))) (vector_at bytes 16) zero_vector (vector_at bytes (spindle_field w 1))
       (prepared_at w bytes 1)
 
   -- the definition's tests, from the code's
-  two_order : (passed (chain_fields w bytes 2) && (passed (chain_check (Read 2)) && chain_within (Read 2))) ≡ Tests 2
+  two_order : (is_ok (chain_fields w bytes 2) && (is_ok (chain_check (Read 2)) && chain_within (Read 2))) ≡ Tests 2
   unfolding first_good second_good second_axis has_direction second_fields second_check chain_within chain_at second_at rotary_at one_or_two
   two_order = rw (fields_passed 2, check_passed (Read 2) refl)
-      (any_order (passed (zeros bytes 1 7)) (passed (rotary_fields bytes 8)) (passed (rotary_fields bytes (second_field w))) (passed (rotary_check (rotary_at w bytes 8) 0 0)) (passed (rotary_check (rotary_at w bytes (second_field w)) (byte_at bytes 8) 1))
+      (any_order (is_ok (zeros bytes 1 7)) (is_ok (rotary_fields bytes 8)) (is_ok (rotary_fields bytes (second_field w))) (is_ok (rotary_check (rotary_at w bytes 8) 0 0)) (is_ok (rotary_check (rotary_at w bytes (second_field w)) (byte_at bytes 8) 1))
       (all_finite (vector_at bytes (spindle_field w 2))) (has_direction (vector_at bytes (spindle_field w 2))) (rotary_within (rotary_at w bytes 8)) (rotary_within (rotary_at w bytes (second_field w))) (record_good w bytes 8 0)
       (record_good w bytes (second_field w) (byte_at bytes 8)) (has_direction (vector_at bytes 16)) (has_direction (vector_at bytes inner))
-      (record_good_lem w bytes 8 0 0) (record_good_lem w bytes (second_field w) (byte_at bytes 8) 1) (direction_finite (vector_at bytes (spindle_field w 2))))
+      (record_good_is w bytes 8 0 0) (record_good_is w bytes (second_field w) (byte_at bytes 8) 1) (direction_finite (vector_at bytes (spindle_field w 2))))
 
-  one_order : (passed (chain_fields w bytes 1) && (passed (chain_check (Read 1)) && chain_within (Read 1))) ≡ Tests 1
+  one_order : (is_ok (chain_fields w bytes 1) && (is_ok (chain_check (Read 1)) && chain_within (Read 1))) ≡ Tests 1
   unfolding first_good second_good second_axis has_direction second_fields second_check chain_within chain_at second_at no_rotary rotary_at one_or_two
   one_order = rw (fields_passed 1, check_passed (Read 1) refl)
-      (any_order (passed (zeros bytes 1 7)) (passed (rotary_fields bytes 8)) true (passed (rotary_check (rotary_at w bytes 8) 0 0)) true (all_finite (vector_at bytes (spindle_field w 1))) (has_direction (vector_at bytes (spindle_field w 1)))
+      (any_order (is_ok (zeros bytes 1 7)) (is_ok (rotary_fields bytes 8)) true (is_ok (rotary_check (rotary_at w bytes 8) 0 0)) true (all_finite (vector_at bytes (spindle_field w 1))) (has_direction (vector_at bytes (spindle_field w 1)))
       (rotary_within (rotary_at w bytes 8)) true (record_good w bytes 8 0) true (has_direction (vector_at bytes 16)) true
-      (record_good_lem w bytes 8 0 0) refl (direction_finite (vector_at bytes (spindle_field w 1))))
+      (record_good_is w bytes 8 0 0) refl (direction_finite (vector_at bytes (spindle_field w 1))))
 
   counted : (count : ℕ) → one_or_two count ≡ true → ready_counted w bytes count ≡ ready_read (chain_unless (chain_fields w bytes count) (Read count))
   counted zero h = absurd (none h)
     where
       none : one_or_two 0 ≡ true → ⊥
       none h = false≢true (unfold one_or_two in h)
-  counted (suc zero) h = one_answer ∙ ap (λ (z : Bool). cond z (Served (prepared (Read 1))) Unserved) (sym one_order) ∙ sym (closed (chain_fields w bytes 1) (Read 1))
-  counted (suc (suc zero)) h = two_answer ∙ ap (λ (z : Bool). cond z (Served (prepared (Read 2))) Unserved) (sym two_order) ∙ sym (closed (chain_fields w bytes 2) (Read 2))
+  counted (suc zero) h = one_answer ∙ ap (λ (z : Bool). cond z (Some (prepared (Read 1))) None) (sym one_order) ∙ sym (closed (chain_fields w bytes 1) (Read 1))
+  counted (suc (suc zero)) h = two_answer ∙ ap (λ (z : Bool). cond z (Some (prepared (Read 2))) None) (sym two_order) ∙ sym (closed (chain_fields w bytes 2) (Read 2))
   counted (suc (suc (suc n))) h = absurd (none n h)
     where
       over : (n : ℕ) → suc (suc (suc n)) < 3 → ⊥
@@ -306,28 +313,28 @@ module _ (w : ℕ) (bytes : List ℕ) where
 
   -- with records as long as the bytes' length says
   module _ (count : ℕ) (record_is : w ≡ record_length (length bytes) count) (some : 1 ≤ length bytes) (of : one_or_two count ≡ true) where
-    read_counted_lem : byte_at bytes 0 ≡ count → length bytes ≡ 32 + w * count → read_chain bytes ≡ chain_unless (chain_fields w bytes count) (Read count)
+    read_counted_is : byte_at bytes 0 ≡ count → length bytes ≡ 32 + w * count → read_chain bytes ≡ chain_unless (chain_fields w bytes count) (Read count)
     unfolding read_chain read_counted read_count
-    read_counted_lem b e = rw (le-ltb _ _ some, b, ← record_is, of, eq-eqb _ _ e)
+    read_counted_is b e = rw (le-ltb _ _ some, b, ← record_is, of, eq-eqb _ _ e)
 
-    pub ready_counted_lem : byte_at bytes 0 ≡ count → length bytes ≡ 32 + w * count → ready_counted w bytes count ≡ ready bytes
+    pub ready_counted_is : byte_at bytes 0 ≡ count → length bytes ≡ 32 + w * count → ready_counted w bytes count ≡ ready bytes
     unfolding ready
-    ready_counted_lem b e = counted count of ∙ ap ready_read (sym (read_counted_lem b e))
+    ready_counted_is b e = counted count of ∙ ap ready_read (sym (read_counted_is b e))
 
-    pub no_length : count ≡ byte_at bytes 0 → (length bytes ≡ 32 + w * count → ⊥) → Unserved ≡ ready bytes
+    pub no_length : count ≡ byte_at bytes 0 → (length bytes ≡ 32 + w * count → ⊥) → None ≡ ready bytes
     unfolding ready read_chain read_counted read_count
     no_length b e = rw (le-ltb _ _ some, ← b, ← record_is, of, ne_eqb _ _ e)
 
 module _ (bytes : List ℕ) where
-  refused_count : (count : ℕ) → one_or_two count ≡ false → Unserved ≡ ready_of (no_chain count)
+  refused_count : (count : ℕ) → one_or_two count ≡ false → None ≡ ready_of (no_chain count)
   unfolding ready_of chain_check no_chain
   refused_count count o = rw o
 
   -- what is read as no chain, or as one that is refused for its count
-  pub no_bytes : length bytes < 1 → Unserved ≡ ready bytes
+  pub no_bytes : length bytes < 1 → None ≡ ready bytes
   unfolding ready read_chain
   no_bytes h = rw (lt-ltb _ _ h)
 
-  pub no_count : (count : ℕ) → count ≡ byte_at bytes 0 → 1 ≤ length bytes → one_or_two count ≡ false → Unserved ≡ ready bytes
+  pub no_count : (count : ℕ) → count ≡ byte_at bytes 0 → 1 ≤ length bytes → one_or_two count ≡ false → None ≡ ready bytes
   unfolding ready read_chain read_counted read_count
   no_count count b l o = rw (le-ltb _ _ l, ← b, o) (refused_count count o)

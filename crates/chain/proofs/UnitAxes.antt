@@ -4,15 +4,13 @@ use mathlib.Core.Path.{◌≡◌, refl}
 use mathlib.Core.Bool.{Bool, true, false, cond, false≢true}
 use Prim.Native.Nat.{ℕ}
 use lib.Dec.{eqb}
-use Rattle.refusal.specs.Numbers.{rotary_count, rotary_letter, letter_twice, chain_not_finite, rotary_axis_zero, limits_refused, spindle_zero}
+use Rattle.std.specs.Prelude.{None, Ok, Option, Some}
+use Rattle.refusal.specs.declared.Cause.{Cause}
 use Rattle.geometry.specs.declared.Vec3.{Vec3}
-use Rattle.geometry.specs.declared.Direction.{Direction}
-use Rattle.geometry.specs.declared.Direction.TheVariants.{Unit as Along, Nowhere}
 use Rattle.geometry.specs.Direction.{all_finite, unit_direction, unit_or, along}
 use Rattle.geometry.proofs.FitVectors.{FitVec, unit_fits}
 use Rattle.geometry.proofs.UnitSize.{UnitSized, unit_size}
 use Rattle.chain.specs.declared.Carrier.{Carrier}
-use Rattle.chain.specs.declared.Checked.TheVariants.{Passed}
 use Rattle.chain.specs.declared.Kinematics.{Kinematics}
 use Rattle.chain.specs.declared.Mount.{Mount}
 use Rattle.chain.specs.declared.Mount.TheVariants.{Table, Head, Absent}
@@ -28,42 +26,42 @@ abbrev pub FitAxes : Kinematics → Type 0
 FitAxes k = FitVec k.first.axis × FitVec k.second.axis × FitVec k.spindle_axis
 
 -- ---- what the check says of directions
-rotary_direction : (j : RotaryJoint) (earlier i : ℕ) → rotary_check j earlier i ≡ Passed → has_direction j.axis ≡ true
+rotary_direction : (j : RotaryJoint) (earlier i : ℕ) → rotary_check j earlier i ≡ Ok tt → has_direction j.axis ≡ true
 unfolding rotary_check
 rotary_direction j earlier i h =
-    demand_passed (has_direction j.axis) rotary_axis_zero i
-    (six_passed (demand (known_letter j.letter) rotary_letter i) (demand (other_letter j.letter earlier) letter_twice i) (demand (all_finite j.axis) chain_not_finite i) (demand (has_direction j.axis) rotary_axis_zero i)
-    (demand (all_finite j.pivot) chain_not_finite i)
-    (then (demand (travel_good j.limits) limits_refused i) (demand (finite j.rest) chain_not_finite i)) h).fourth
+    demand_passed (has_direction j.axis) Cause.RotaryAxisZero i
+    (six_passed (demand (known_letter j.letter) Cause.RotaryLetter i) (demand (other_letter j.letter earlier) Cause.LetterTwice i) (demand (all_finite j.axis) Cause.ChainNotFinite i) (demand (has_direction j.axis) Cause.RotaryAxisZero i)
+    (demand (all_finite j.pivot) Cause.ChainNotFinite i)
+    (then (demand (travel_good j.limits) Cause.LimitsRefused i) (demand (finite j.rest) Cause.ChainNotFinite i)) h).fourth
 
 record ChainPassed (k : Kinematics) : Type 0 where
   first : has_direction k.first.axis ≡ true
-  second : second_check k ≡ Passed
+  second : second_check k ≡ Ok tt
   spindle : has_direction k.spindle_axis ≡ true
 
-chain_passed : (k : Kinematics) → chain_check k ≡ Passed → ChainPassed k
+chain_passed : (k : Kinematics) → chain_check k ≡ Ok tt → ChainPassed k
 unfolding chain_check
 chain_passed k h =
-    let count = demand (one_or_two k.count) rotary_count 0 in
-    let number = demand (all_finite k.spindle_axis) chain_not_finite 0 in
-    let direction = demand (has_direction k.spindle_axis) spindle_zero 0 in
+    let count = demand (one_or_two k.count) Cause.RotaryCount 0 in
+    let number = demand (all_finite k.spindle_axis) Cause.ChainNotFinite 0 in
+    let direction = demand (has_direction k.spindle_axis) Cause.SpindleZero 0 in
     let a = (then_passed count (then (rotary_check k.first 0 0) (then (second_check k) (then number direction))) h).1 in
     let b = then_passed (rotary_check k.first 0 0) (then (second_check k) (then number direction)) a in
     let c = then_passed (second_check k) (then number direction) b.1 in
     record {
       first = rotary_direction k.first 0 0 b.0;
       second = c.0;
-      spindle = demand_passed (has_direction k.spindle_axis) spindle_zero 0 (then_passed number direction c.1).1;
+      spindle = demand_passed (has_direction k.spindle_axis) Cause.SpindleZero 0 (then_passed number direction c.1).1;
     }
 
 -- ---- one axis
-directed : (v : Vec3) → has_direction v ≡ true → unit_direction v ≡ Along (unit_axis v)
+directed : (v : Vec3) → has_direction v ≡ true → unit_direction v ≡ Some (unit_axis v)
 unfolding has_direction unit_axis unit_or
 directed v h = go (unit_direction v) h
   where
-    go : (d : Direction) → served d ≡ true → d ≡ Along (along d v (λ u. u))
-    go (Along u) h = refl
-    go Nowhere h = absurd (false≢true h)
+    go : (d : Option Vec3) → served d ≡ true → d ≡ Some (along d v (λ u. u))
+    go (Some u) h = refl
+    go None h = absurd (false≢true h)
 
 -- the second rotary's axis, where there is one
 abbrev pub SecondUnit : Mount → Vec3 → Type 0
@@ -73,27 +71,27 @@ SecondUnit Head v = UnitSized v
 
 abbrev pub SecondDirected : Mount → Vec3 → Vec3 → Type 0
 SecondDirected Absent given v = Unit {0}
-SecondDirected Table given v = unit_direction given ≡ Along v
-SecondDirected Head given v = unit_direction given ≡ Along v
+SecondDirected Table given v = unit_direction given ≡ Some v
+SecondDirected Head given v = unit_direction given ≡ Some v
 
 -- the second axis, by what is to hold of it
 module _ (k : Kinematics) (P : Mount → Vec3 → Type 0) (absent : P Absent k.second.axis) (carried : (c : Carrier) → has_direction k.second.axis ≡ true → P (mount_of c) (unit_axis k.second.axis)) where
-  second_by : second_check k ≡ Passed → P (second_spin k).mount (second_spin k).axis
+  second_by : second_check k ≡ Ok tt → P (second_spin k).mount (second_spin k).axis
   unfolding second_check second_spin spin_of
   second_by h = go (eqb k.count 2) h
     where
-      go : (b : Bool) → cond b (rotary_check k.second k.first.letter 1) Passed ≡ Passed
+      go : (b : Bool) → cond b (rotary_check k.second k.first.letter 1) (Ok tt) ≡ Ok tt
           → P (cond b (spin_of k.second) (record { mount = Absent; axis = k.second.axis; pivot = k.second.pivot })).mount (cond b (spin_of k.second) (record { mount = Absent; axis = k.second.axis; pivot = k.second.pivot })).axis
       go true h = unfold spin_of in carried k.second.carrier (rotary_direction k.second k.first.letter 1 h)
       go false h = absent
 
 -- ---- the prepared axes are the unit vectors of the given ones: `unit_axis` does not fall back on a given axis
 pub record ChainDirections (k : Kinematics) : Type 0 where
-  pub first : unit_direction k.first.axis ≡ Along (prepared k).first.axis
+  pub first : unit_direction k.first.axis ≡ Some (prepared k).first.axis
   pub second : SecondDirected (prepared k).second.mount k.second.axis (prepared k).second.axis
-  pub spindle : unit_direction k.spindle_axis ≡ Along (prepared k).spindle
+  pub spindle : unit_direction k.spindle_axis ≡ Some (prepared k).spindle
 
-pub chain_directions : (k : Kinematics) → chain_check k ≡ Passed → ChainDirections k
+pub chain_directions : (k : Kinematics) → chain_check k ≡ Ok tt → ChainDirections k
 unfolding prepared spin_of
 chain_directions k h =
     let c = chain_passed k h in
@@ -113,7 +111,7 @@ pub record UnitChain (p : Prepared) : Type 0 where
 axis_sized : (v : Vec3) → FitVec v → has_direction v ≡ true → UnitSized (unit_axis v)
 axis_sized v F h = unit_size v (unit_axis v) F (directed v h)
 
-pub chain_units : (k : Kinematics) → FitAxes k → chain_check k ≡ Passed → UnitChain (prepared k)
+pub chain_units : (k : Kinematics) → FitAxes k → chain_check k ≡ Ok tt → UnitChain (prepared k)
 unfolding prepared spin_of
 chain_units k F h =
     let c = chain_passed k h in

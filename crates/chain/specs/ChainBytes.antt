@@ -1,19 +1,18 @@
 -- The bytes of a chain: its count in one byte, 7 zero bytes, a record of w bytes for each rotary, the spindle axis.
 -- A breach is 29 with the offset of the first bad field. `w` is 80 where each record has a rest angle, else 72.
-use Rattle.std.specs.Prelude.{Bool, not, cond, List, [], ◌∷◌, ℕ, zero, suc, ◌+◌, ◌*◌, ltb, eqb, length, Float}
+use Rattle.std.specs.Prelude.{Bool, not, cond, List, [], ◌∷◌, ℕ, zero, suc, ◌+◌, ◌*◌, ltb, eqb, length, Float, Err, None, Ok, Option, Result, Some}
 use Rattle.float.specs.Helpers.{nought}
 use Rattle.geometry.specs.declared.Vec3.{Vec3}
 use Rattle.geometry.specs.Vector.{vector}
+use Rattle.refusal.specs.declared.Refusal.{Refusal}
 use Rattle.refusal.specs.Numbers as Numbers
+use Rattle.refusal.specs.declared.Cause.{Cause}
+use Rattle.chain.specs.declared.RotaryLimits.{RotaryLimits}
+use Rattle.chain.specs.Checked.{Checked}
 use Rattle.chain.specs.declared.Carrier.{Carrier}
 use Rattle.chain.specs.declared.Carrier.TheVariants.{Table, Head}
-use Rattle.chain.specs.declared.Travel.{Travel}
-use Rattle.chain.specs.declared.Travel.TheVariants.{Unlimited, Within}
 use Rattle.chain.specs.declared.RotaryJoint.{RotaryJoint}
 use Rattle.chain.specs.declared.Kinematics.{Kinematics}
-use Rattle.chain.specs.declared.Checked.{Checked}
-use Rattle.chain.specs.declared.ChainRead.{ChainRead}
-use Rattle.chain.specs.declared.ChainRead.TheVariants.{Chain, Refused}
 use Rattle.chain.specs.Bytes.{byte_at, number_at, vector_at, spare}
 use Rattle.chain.specs.Check.{demand, then, first_refusal, one_or_two}
 
@@ -68,8 +67,8 @@ rest_field at = at + 72
 -- ---- what they must be
 -- n zero bytes: the first that is not zero is refused
 unfoldable pub zeros : List ℕ → ℕ → ℕ → Checked
-zeros bytes at zero = Checked.Passed
-zeros bytes at (suc n) = then (demand (eqb (byte_at bytes at) 0) Numbers.malformed at) (zeros bytes (at + 1) n)
+zeros bytes at zero = Ok tt
+zeros bytes at (suc n) = then (demand (eqb (byte_at bytes at) 0) Cause.Malformed at) (zeros bytes (at + 1) n)
 
 unfoldable pub flag : List ℕ → ℕ → Bool
 flag bytes at = ltb (byte_at bytes at) 2
@@ -77,15 +76,15 @@ flag bytes at = ltb (byte_at bytes at) 2
 unfoldable pub rotary_fields : List ℕ → ℕ → Checked
 rotary_fields bytes at =
     first_refusal
-    (demand (flag bytes (carrier_field at)) Numbers.malformed (carrier_field at)
-    ∷ demand (flag bytes (limits_field at)) Numbers.malformed (limits_field at)
+    (demand (flag bytes (carrier_field at)) Cause.Malformed (carrier_field at)
+    ∷ demand (flag bytes (limits_field at)) Cause.Malformed (limits_field at)
     ∷ zeros bytes (empty_fields at) 5
-    ∷ demand (spare bytes (limits_field at) (min_field at)) Numbers.malformed (min_field at)
-    ∷ demand (spare bytes (limits_field at) (max_field at)) Numbers.malformed (max_field at)
+    ∷ demand (spare bytes (limits_field at) (min_field at)) Cause.Malformed (min_field at)
+    ∷ demand (spare bytes (limits_field at) (max_field at)) Cause.Malformed (max_field at)
     ∷ [])
 
 unfoldable pub second_fields : ℕ → List ℕ → ℕ → Checked
-second_fields w bytes count = cond (eqb count 2) (rotary_fields bytes (second_field w)) Checked.Passed
+second_fields w bytes count = cond (eqb count 2) (rotary_fields bytes (second_field w)) (Ok tt)
 
 unfoldable pub chain_fields : ℕ → List ℕ → ℕ → Checked
 chain_fields w bytes count = first_refusal (zeros bytes empty_field 7 ∷ rotary_fields bytes first_field ∷ second_fields w bytes count ∷ [])
@@ -94,10 +93,10 @@ chain_fields w bytes count = first_refusal (zeros bytes empty_field 7 ∷ rotary
 unfoldable pub carrier_of : ℕ → Carrier
 carrier_of byte = cond (eqb byte 0) Table Head
 
-unfoldable pub travel_at : List ℕ → ℕ → Travel
+unfoldable pub travel_at : List ℕ → ℕ → Option RotaryLimits
 travel_at bytes at =
-    cond (eqb (byte_at bytes (limits_field at)) 0) Unlimited
-    (Within (record { min = number_at bytes (min_field at); max = number_at bytes (max_field at) }))
+    cond (eqb (byte_at bytes (limits_field at)) 0) None
+    (Some (record { min = number_at bytes (min_field at); max = number_at bytes (max_field at) }))
 
 -- the rest angle, +0.0 where the record has none. Its bits are not judged here: a nan is refused by the chain's check
 unfoldable pub rest_at : ℕ → List ℕ → ℕ → Float
@@ -118,7 +117,7 @@ abbrev pub zero_vector : Vec3
 zero_vector = vector nought nought nought
 
 unfoldable pub no_rotary : RotaryJoint
-no_rotary = record { letter = 0; carrier = Table; limits = Unlimited; axis = zero_vector; pivot = zero_vector; rest = nought }
+no_rotary = record { letter = 0; carrier = Table; limits = None; axis = zero_vector; pivot = zero_vector; rest = nought }
 
 unfoldable pub second_at : ℕ → List ℕ → ℕ → RotaryJoint
 second_at w bytes count = cond (eqb count 2) (rotary_at w bytes (second_field w)) no_rotary
@@ -135,25 +134,25 @@ unfoldable pub no_chain : ℕ → Kinematics
 no_chain count = record { count = count; first = no_rotary; second = no_rotary; spindle_axis = zero_vector }
 
 -- ---- the reader
-abbrev pub malformed : ℕ → ChainRead
-malformed at = Refused (Numbers.refusal Numbers.malformed at)
+abbrev pub malformed : ℕ → Result Kinematics Refusal
+malformed at = Err (Numbers.refusal Cause.Malformed at)
 
-abbrev pub chain_unless : Checked → Kinematics → ChainRead
-chain_unless Checked.Passed k = Chain k
-chain_unless (Checked.Refused r) k = Refused r
+abbrev pub chain_unless : Checked → Kinematics → Result Kinematics Refusal
+chain_unless (Ok _) k = Ok k
+chain_unless (Err r) k = Err r
 
 -- the length says how long a record is
 unfoldable pub record_length : (length count : ℕ) → ℕ
 record_length length count = cond (eqb length (length_of_chain 80 count)) 80 72
 
 -- with records of w bytes; of a count other than 1 or 2 nothing more is judged
-unfoldable pub read_count : ℕ → List ℕ → ℕ → ChainRead
+unfoldable pub read_count : ℕ → List ℕ → ℕ → Result Kinematics Refusal
 read_count w bytes count =
-    cond (not (one_or_two count)) (Chain (no_chain count))
+    cond (not (one_or_two count)) (Ok (no_chain count))
     (cond (not (eqb (length bytes) (length_of_chain w count))) (malformed 0) (chain_unless (chain_fields w bytes count) (chain_at w bytes count)))
 
-unfoldable pub read_counted : List ℕ → ℕ → ChainRead
+unfoldable pub read_counted : List ℕ → ℕ → Result Kinematics Refusal
 read_counted bytes count = read_count (record_length (length bytes) count) bytes count
 
-unfoldable pub read_chain : List ℕ → ChainRead
+unfoldable pub read_chain : List ℕ → Result Kinematics Refusal
 read_chain bytes = cond (ltb (length bytes) 1) (malformed 0) (read_counted bytes (byte_at bytes count_field))

@@ -1,35 +1,31 @@
 -- What a chain must be. A check answers `Passed` or a refusal; a list of checks answers with its first refusal, so the order of the papers is the order of the list.
-use Rattle.std.specs.Prelude.{Bool, true, false, not, ◌&&◌, cond, List, [], ◌∷◌, ℕ, ltb, eqb, Float}
+use Rattle.std.specs.Prelude.{Bool, true, false, not, ◌&&◌, cond, List, [], ◌∷◌, ℕ, ltb, eqb, Float, Err, None, Ok, Option, Some}
 use Rattle.std.specs.Float.Ieee as Ieee
 use Rattle.std.specs.Float.{binary64}
 use Rattle.std.specs.Float.Ieee.{of_bits}
 use Rattle.std.specs.Float.Ieee.Scale.{finite}
 use Rattle.float.specs.Helpers.{size_of}
 use Rattle.geometry.specs.declared.Vec3.{Vec3}
-use Rattle.geometry.specs.declared.Direction.{Direction}
-use Rattle.geometry.specs.declared.Direction.TheVariants.{Unit, Nowhere}
 use Rattle.geometry.specs.Direction.{all_finite, unit_direction}
-use Rattle.refusal.specs.Numbers.{refusal, rotary_count, rotary_letter, letter_twice, chain_not_finite, rotary_axis_zero, limits_refused, spindle_zero, too_large}
-use Rattle.chain.specs.declared.Checked.{Checked}
-use Rattle.chain.specs.declared.Checked.TheVariants.{Passed, Refused}
+use Rattle.refusal.specs.Numbers.{refusal}
+use Rattle.refusal.specs.declared.Cause.{Cause}
+use Rattle.chain.specs.Checked.{Checked}
 use Rattle.chain.specs.declared.RotaryLimits.{RotaryLimits}
-use Rattle.chain.specs.declared.Travel.{Travel}
-use Rattle.chain.specs.declared.Travel.TheVariants.{Unlimited, Within}
 use Rattle.chain.specs.declared.RotaryJoint.{RotaryJoint}
 use Rattle.chain.specs.declared.Kinematics.{Kinematics}
 use Rattle.chain.specs.declared.Joints.{Joints}
 
 -- ---- lists of checks
-abbrev pub demand : Bool → ℕ → ℕ → Checked
-demand true number at = Passed
-demand false number at = Refused (refusal number at)
+abbrev pub demand : Bool → Cause → ℕ → Checked
+demand true cause at = Ok tt
+demand false cause at = Err (refusal cause at)
 
 abbrev pub then : Checked → Checked → Checked
-then Passed second = second
-then (Refused r) second = Refused r
+then (Ok _) second = second
+then (Err r) second = Err r
 
 abbrev pub first_refusal : List Checked → Checked
-first_refusal [] = Passed
+first_refusal [] = Ok tt
 first_refusal (c ∷ []) = c
 first_refusal (c ∷ d ∷ l) = then c (first_refusal (d ∷ l))
 
@@ -37,14 +33,14 @@ first_refusal (c ∷ d ∷ l) = then c (first_refusal (d ∷ l))
 unfoldable pub contains : RotaryLimits → Float → Bool
 contains l angle = Ieee.le l.min angle && Ieee.le angle l.max
 
-unfoldable pub travel_good : Travel → Bool
-travel_good Unlimited = true
-travel_good (Within l) = finite l.min && finite l.max && Ieee.lt l.min l.max
+unfoldable pub travel_good : Option RotaryLimits → Bool
+travel_good None = true
+travel_good (Some l) = finite l.min && finite l.max && Ieee.lt l.min l.max
 
 -- `unit_direction` serves it: not all of it is below 1e-15 in size, and its length does not overflow
-abbrev pub served : Direction → Bool
-served (Unit u) = true
-served Nowhere = false
+abbrev pub served : Option Vec3 → Bool
+served (Some u) = true
+served None = false
 
 unfoldable pub has_direction : Vec3 → Bool
 has_direction v = served (unit_direction v)
@@ -59,13 +55,13 @@ other_letter letter earlier = not (eqb letter earlier)
 unfoldable pub rotary_check : RotaryJoint → ℕ → ℕ → Checked
 rotary_check j earlier i =
     first_refusal
-    (demand (known_letter j.letter) rotary_letter i
-    ∷ demand (other_letter j.letter earlier) letter_twice i
-    ∷ demand (all_finite j.axis) chain_not_finite i
-    ∷ demand (has_direction j.axis) rotary_axis_zero i
-    ∷ demand (all_finite j.pivot) chain_not_finite i
-    ∷ demand (travel_good j.limits) limits_refused i
-    ∷ demand (finite j.rest) chain_not_finite i
+    (demand (known_letter j.letter) Cause.RotaryLetter i
+    ∷ demand (other_letter j.letter earlier) Cause.LetterTwice i
+    ∷ demand (all_finite j.axis) Cause.ChainNotFinite i
+    ∷ demand (has_direction j.axis) Cause.RotaryAxisZero i
+    ∷ demand (all_finite j.pivot) Cause.ChainNotFinite i
+    ∷ demand (travel_good j.limits) Cause.LimitsRefused i
+    ∷ demand (finite j.rest) Cause.ChainNotFinite i
     ∷ [])
 
 -- ---- the chain
@@ -73,16 +69,16 @@ unfoldable pub one_or_two : ℕ → Bool
 one_or_two count = not (ltb count 1) && ltb count 3
 
 unfoldable pub second_check : Kinematics → Checked
-second_check k = cond (eqb k.count 2) (rotary_check k.second k.first.letter 1) Passed
+second_check k = cond (eqb k.count 2) (rotary_check k.second k.first.letter 1) (Ok tt)
 
 unfoldable pub chain_check : Kinematics → Checked
 chain_check k =
     first_refusal
-    (demand (one_or_two k.count) rotary_count 0
+    (demand (one_or_two k.count) Cause.RotaryCount 0
     ∷ rotary_check k.first 0 0
     ∷ second_check k
-    ∷ demand (all_finite k.spindle_axis) chain_not_finite 0
-    ∷ demand (has_direction k.spindle_axis) spindle_zero 0
+    ∷ demand (all_finite k.spindle_axis) Cause.ChainNotFinite 0
+    ∷ demand (has_direction k.spindle_axis) Cause.SpindleZero 0
     ∷ [])
 
 -- ---- sizes: of each number apart, and strict: what equals the limit passes
@@ -111,7 +107,7 @@ unfoldable pub chain_within : Kinematics → Bool
 chain_within k = rotary_within k.first && cond (eqb k.count 2) (rotary_within k.second) true
 
 unfoldable pub chain_sizes : Kinematics → Checked
-chain_sizes k = demand (chain_within k) too_large 0
+chain_sizes k = demand (chain_within k) Cause.TooLarge 0
 
 -- ---- joints: all five numbers, the unused angle too
 unfoldable pub joints_finite : Joints → Bool

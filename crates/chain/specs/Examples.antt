@@ -1,6 +1,5 @@
 -- Worked examples of a chain's bytes: what is refused and where, and what is handed on.
-use Rattle.std.specs.Prelude.{◌≡◌, refl, List, [], ◌∷◌, ◌++◌, ℕ, ◌-◌, replicate}
-use Rattle.chain.specs.declared.ChainRead.TheVariants.{Chain}
+use Rattle.std.specs.Prelude.{◌≡◌, refl, List, [], ◌∷◌, ◌++◌, ℕ, ◌-◌, replicate, Ok}
 use Rattle.chain.specs.Bytes.{little_endian, spare}
 use Rattle.chain.specs.Check.{one_or_two}
 use Rattle.chain.specs.ChainBytes.{zeros, flag, rotary_fields, second_fields, chain_fields, no_chain, malformed, read_count, read_chain, read_counted, record_length}
@@ -10,7 +9,7 @@ marked : ℕ → ℕ → List ℕ
 marked at byte = 1 ∷ replicate (at - 1) 0 ++ byte ∷ replicate (103 - at) 0
 
 -- no count; a length that is not the count's; a count that is none of the chain's
-lengths : (read_chain [] ≡ malformed 0) × (read_chain (1 ∷ []) ≡ malformed 0) × (read_chain (3 ∷ []) ≡ Chain (no_chain 3))
+lengths : (read_chain [] ≡ malformed 0) × (read_chain (1 ∷ []) ≡ malformed 0) × (read_chain (3 ∷ []) ≡ Ok (no_chain 3))
 unfolding read_chain read_counted record_length read_count one_or_two
 lengths = (refl, refl, refl)
 

@@ -1,16 +1,17 @@
 -- Forward: tip = T⁻¹ (xyz + H (-L spindle)), axis = T⁻¹ H spindle, normalised, for the heads H = H1 H2 and the tables T = T1 T2, outer joint first. Turning back is the turn by the negated angle.
-use Rattle.std.specs.Prelude.{Bool, not, ◌&&◌, [], ◌∷◌, Float}
+use Rattle.std.specs.Prelude.{Bool, not, ◌&&◌, [], ◌∷◌, Float, Err, None, Ok, Option, Result, Some}
 use Rattle.std.specs.Float.Ieee as Ieee
 use Rattle.std.specs.Float.Ieee.Scale.{finite}
 use Rattle.float.specs.Helpers.{nought, one}
 use Rattle.geometry.specs.declared.Vec3.{Vec3}
 use Rattle.geometry.specs.declared.Turn.{Turn}
-use Rattle.geometry.specs.declared.Direction.{Direction}
-use Rattle.geometry.specs.declared.Direction.TheVariants.{Unit, Nowhere}
 use Rattle.geometry.specs.Vector.{add, sub, scale}
 use Rattle.geometry.specs.Turn.{turn_of, turned_back, rotate_vector, rotate_point}
 use Rattle.geometry.specs.Direction.{unit_direction, unit_or}
-use Rattle.refusal.specs.Numbers.{refusal, tool_length, not_finite, too_large, spindle_zero}
+use Rattle.refusal.specs.declared.Refusal.{Refusal}
+use Rattle.refusal.specs.Numbers.{refusal}
+use Rattle.refusal.specs.declared.Cause.{Cause}
+use Rattle.chain.specs.Checked.{Checked}
 use Rattle.chain.specs.declared.Mount.{Mount}
 use Rattle.chain.specs.declared.Mount.TheVariants.{Table, Head, Absent}
 use Rattle.chain.specs.declared.Spin.{Spin}
@@ -19,10 +20,6 @@ use Rattle.chain.specs.declared.Turns.{Turns}
 use Rattle.chain.specs.declared.Joints.{Joints}
 use Rattle.chain.specs.declared.ToolPose.{ToolPose}
 use Rattle.chain.specs.declared.Kinematics.{Kinematics}
-use Rattle.chain.specs.declared.Checked.{Checked}
-use Rattle.chain.specs.declared.ChainRead.{ChainRead}
-use Rattle.chain.specs.declared.Posed.{Posed}
-use Rattle.chain.specs.declared.Posed.TheVariants.{At, Refused}
 use Rattle.chain.specs.Check.{demand, first_refusal, chain_check, within, longest, joints_finite, joints_within, chain_within}
 use Rattle.chain.specs.Prepared.{prepared}
 
@@ -113,28 +110,28 @@ forward_sizes k j tool = within tool longest && joints_within j && chain_within 
 unfoldable pub forward_check : Kinematics → Joints → Float → Checked
 forward_check k j tool =
     first_refusal
-    (demand (length_good tool) tool_length 0
+    (demand (length_good tool) Cause.ToolLength 0
     ∷ chain_check k
-    ∷ demand (joints_finite j) not_finite 0
-    ∷ demand (forward_sizes k j tool) too_large 0
+    ∷ demand (joints_finite j) Cause.NotFinite 0
+    ∷ demand (forward_sizes k j tool) Cause.TooLarge 0
     ∷ [])
 
-abbrev pub with_axis : Vec3 → Direction → Posed
-with_axis tip (Unit axis) = At (record { tip = tip; axis = axis })
-with_axis tip Nowhere = Refused (refusal spindle_zero 0)
+abbrev pub with_axis : Vec3 → Option Vec3 → Result ToolPose Refusal
+with_axis tip (Some axis) = Ok (record { tip = tip; axis = axis })
+with_axis tip None = Err (refusal Cause.SpindleZero 0)
 
-unfoldable pub posed : ToolPose → Posed
+unfoldable pub posed : ToolPose → Result ToolPose Refusal
 posed reached = with_axis reached.tip (unit_direction reached.axis)
 
-abbrev pub unless_refused : Checked → Posed → Posed
-unless_refused Checked.Passed answer = answer
-unless_refused (Checked.Refused r) answer = Refused r
+abbrev pub unless_refused : Checked → Result ToolPose Refusal → Result ToolPose Refusal
+unless_refused (Ok _) answer = answer
+unless_refused (Err r) answer = Err r
 
-unfoldable pub forward : Kinematics → Joints → Float → Posed
+unfoldable pub forward : Kinematics → Joints → Float → Result ToolPose Refusal
 forward k j tool =
     unless_refused (forward_check k j tool) (posed (reach (prepared k) (turns_of (prepared k) j.a0 j.a1) j.xyz tool))
 
 -- the same of a chain's bytes, read
-abbrev pub forward_read : ChainRead → Joints → Float → Posed
-forward_read (ChainRead.Refused r) j tool = Refused r
-forward_read (ChainRead.Chain k) j tool = forward k j tool
+abbrev pub forward_read : Result Kinematics Refusal → Joints → Float → Result ToolPose Refusal
+forward_read (Err r) j tool = Err r
+forward_read (Ok k) j tool = forward k j tool

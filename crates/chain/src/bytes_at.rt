@@ -10,10 +10,7 @@ use geometry::Vec3;
 pub fn byte_at(bytes: &[u8], at: usize) -> u8
     ensures { result ≡ S.byte_at bytes.now at }
 {
-    if at < bytes.len() {
-        return bytes[at];
-    }
-    0
+    bytes.get(at).copied().unwrap_or(0)
 }
 
 // Bytes past the end count as 0.
@@ -21,32 +18,16 @@ pub fn u16_at(bytes: &[u8], at: usize) -> u16
     ensures { result ≡ S.little_endian 2 bytes.now at }
 {
     if at < bytes.len() {
-        let low = byte_at(bytes, at);
-        let high = byte_at(bytes, at + 1);
-        return low as u16 + high as u16 * 256;
+        return u16::from_le_bytes([bytes[at], byte_at(bytes, at + 1)]);
     }
     0
-}
-
-// Eight bytes, the lowest first.
-fn word(a: u8, b: u8, c: u8, d: u8, e: u8, f: u8, g: u8, h: u8) -> u64
-    ensures { result ≡ S.word a b c d e f g h }
-{
-    a as u64
-        + b as u64 * 256
-        + c as u64 * 65536
-        + d as u64 * 16777216
-        + e as u64 * 4294967296
-        + f as u64 * 1099511627776
-        + g as u64 * 281474976710656
-        + h as u64 * 72057594037927936
 }
 
 pub fn word_at(bytes: &[u8], at: usize) -> u64
     requires { at + 8 ≤ length bytes.now }
     ensures { result ≡ S.little_endian 8 bytes.now at }
 {
-    word(
+    u64::from_le_bytes([
         bytes[at],
         bytes[at + 1],
         bytes[at + 2],
@@ -55,17 +36,14 @@ pub fn word_at(bytes: &[u8], at: usize) -> u64
         bytes[at + 5],
         bytes[at + 6],
         bytes[at + 7],
-    )
+    ])
 }
 
 // The float of a bit pattern.
 pub fn number_of(bits: u64) -> f64
     ensures { result ≡ of_bits binary64 bits }
 {
-    if 9218868437227405312 < bits % 9223372036854775808 {
-        return 0.0 / 0.0;
-    }
-    f64::from_bits(bits)
+    std::num::f64_from_bits_with_nan(bits)
 }
 
 pub fn number_at(bytes: &[u8], at: usize) -> f64
@@ -86,12 +64,10 @@ pub fn vector_at(bytes: &[u8], at: usize) -> Vec3
 }
 
 // Whether a number that is used only where the byte at `switch` is 1 is so used, or else +0.0 bit for bit.
+#[tactic(auto, unfolding(crate::specs::Bytes::spare))]
 pub fn spare(bytes: &[u8], switch: usize, at: usize) -> bool
     requires { at + 8 ≤ length bytes.now }
     ensures { result ≡ S.spare bytes.now switch at }
 {
-    if byte_at(bytes, switch) == 1 {
-        return true;
-    }
-    word_at(bytes, at) == 0
+    byte_at(bytes, switch) == 1 || word_at(bytes, at) == 0
 }

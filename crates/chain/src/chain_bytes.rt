@@ -1,31 +1,30 @@
-// A chain from its bytes: the encoding that a job file and a caller of the library share. A breach is 29 with its offset; count and letters are handed on for the chain check.
-ghost use Rattle.std.specs.Prelude.{◌+◌, ◌*◌, ◌≤◌, ◌≡◌, length};
+// A chain from its bytes: the encoding that a job file and a caller of the library share. A breach is 29 with its
+// offset; count and letters are handed on for the chain check.
+ghost use Rattle.std.specs.Prelude.{◌+◌, ◌≤◌, ◌≡◌, true, false, not, eqb, length, position, MatchOption};
+ghost use Rattle.chain.specs.Bytes.{vector_at};
 ghost use Rattle.chain.specs.ChainBytes as S;
 
 use crate::bytes_at::{byte_at, number_at, spare, vector_at};
-use crate::checks::{demand, one_or_two, then};
-use crate::{Carrier, ChainRead, Checked, Kinematics, RotaryJoint, RotaryLimits, Travel};
+use crate::checks::{demand, one_or_two};
+use crate::{Carrier, ChainBytes, Kinematics, RotaryJoint, RotaryLimits};
 use geometry::Vec3;
-use refusal::Refusal;
+use refusal::{Cause, Refusal};
+
+fn first_nonzero(bytes: &[u8]) -> Option<usize>
+    ensures { result ≡ position (λ byte. not (eqb byte 0)) bytes.now }
+{
+    bytes.iter().position(|byte| *byte != 0)
+}
 
 // The first of n bytes that is not zero is refused.
-pub fn zeros(bytes: &[u8], at: usize, n: usize) -> Checked
+pub fn zeros(bytes: &[u8], at: usize, n: usize) -> Result<(), Refusal>
     requires { at + n ≤ length bytes.now }
     ensures { result ≡ S.zeros bytes.now at n }
 {
-    let end = at + n;
-    let mut i = at;
-    while i < end {
-        if bytes[i] != 0 {
-            return Checked::Refused(Refusal {
-                number: refusal::MALFORMED,
-                at: i as u64,
-                letter: 0,
-            });
-        }
-        i += 1;
+    match first_nonzero(&bytes[at..at + n]) {
+        None => Ok(()),
+        Some(i) => Err(Refusal::new(Cause::Malformed, (at + i) as u64)),
     }
-    Checked::Passed
 }
 
 // 0 or 1.
@@ -35,27 +34,30 @@ pub fn flag(bytes: &[u8], at: usize) -> bool
     byte_at(bytes, at) < 2
 }
 
+// Records are read by an offset and not as a value of their own: two of these are public and promised so, and the
+// others would be `Record { bytes, at, w }.travel()` for `travel_at(bytes, at)`.
 // What the bytes of a rotary's record must be, the letter aside.
-pub fn rotary_fields(bytes: &[u8], at: usize) -> Checked
+#[tactic(auto, unfolding(crate::specs::ChainBytes::rotary_fields))]
+pub fn rotary_fields(bytes: &[u8], at: usize) -> Result<(), Refusal>
     requires { at + 72 ≤ length bytes.now }
     ensures { result ≡ S.rotary_fields bytes.now at }
 {
-    let carrier = demand(flag(bytes, at + 1), refusal::MALFORMED, (at + 1) as u64);
-    let limits = demand(flag(bytes, at + 2), refusal::MALFORMED, (at + 2) as u64);
-    let empty = zeros(bytes, at + 3, 5);
-    let min = demand(
+    demand(flag(bytes, at + 1), Cause::Malformed, (at + 1) as u64)?;
+    demand(flag(bytes, at + 2), Cause::Malformed, (at + 2) as u64)?;
+    zeros(bytes, at + 3, 5)?;
+    demand(
         spare(bytes, at + 2, at + 56),
-        refusal::MALFORMED,
+        Cause::Malformed,
         (at + 56) as u64,
-    );
-    let max = demand(
+    )?;
+    demand(
         spare(bytes, at + 2, at + 64),
-        refusal::MALFORMED,
+        Cause::Malformed,
         (at + 64) as u64,
-    );
-    then(carrier, then(limits, then(empty, then(min, max))))
+    )
 }
 
+// No `From<u8>`: a byte that is neither 0 nor 1 is refused elsewhere, and here it is a head.
 pub fn carrier_of(byte: u8) -> Carrier
     ensures { result ≡ S.carrier_of byte }
 {
@@ -65,16 +67,16 @@ pub fn carrier_of(byte: u8) -> Carrier
     Carrier::Head
 }
 
-pub fn travel_at(bytes: &[u8], at: usize) -> Travel
+pub fn travel_at(bytes: &[u8], at: usize) -> Option<RotaryLimits>
     requires { at + 72 ≤ length bytes.now }
     ensures { result ≡ S.travel_at bytes.now at }
 {
     if byte_at(bytes, at + 2) == 0 {
-        return Travel::Unlimited;
+        return None;
     }
     let min = number_at(bytes, at + 56);
     let max = number_at(bytes, at + 64);
-    Travel::Within(RotaryLimits { min, max })
+    Some(RotaryLimits { min, max })
 }
 
 // The rest angle in a record of w bytes, +0.0 where it has none.
@@ -121,7 +123,7 @@ pub fn no_rotary() -> RotaryJoint
     RotaryJoint {
         letter: 0,
         carrier: Carrier::Table,
-        limits: Travel::Unlimited,
+        limits: None,
         axis: zero,
         pivot: zero,
         rest: 0.0,
@@ -147,94 +149,106 @@ fn no_chain(count: u8) -> Kinematics
     }
 }
 
-fn second_fields(w: usize, bytes: &[u8], count: u8) -> Checked
-    requires { (72 ≤ w) × (32 + w * count ≤ length bytes.now) }
-    ensures { result ≡ S.second_fields w bytes.now count }
-{
-    if count == 2 {
-        return rotary_fields(bytes, 8 + w);
+impl ChainBytes<'_> {
+    // Where the record of the second rotary starts, if there is one.
+    pub fn second(self) -> Option<usize>
+        ensures { MatchOption result (eqb self.entry.count 2 ≡ false) (λ at. (eqb self.entry.count 2 ≡ true) × (at ≡ 8 + self.entry.w) × (at + self.entry.w ≤ length self.entry.bytes.now)) }
+    {
+        if self.count == 2 {
+            Some(8 + self.w)
+        } else {
+            None
+        }
     }
-    Checked::Passed
-}
 
-fn second_at(w: usize, bytes: &[u8], count: u8) -> RotaryJoint
-    requires { (72 ≤ w) × (32 + w * count ≤ length bytes.now) }
-    ensures { result ≡ S.second_at w bytes.now count }
-{
-    if count == 2 {
-        return rotary_at(w, bytes, 8 + w);
+    #[tactic(auto, unfolding(crate::specs::ChainBytes::second_fields))]
+    fn second_fields(self) -> Result<(), Refusal>
+        ensures { result ≡ S.second_fields self.entry.w self.entry.bytes.now self.entry.count }
+    {
+        match self.second() {
+            Some(at) => rotary_fields(self.bytes, at),
+            None => Ok(()),
+        }
     }
-    no_rotary()
-}
 
-// What the bytes of a chain of the right length must be.
-fn chain_fields(w: usize, bytes: &[u8], count: u8) -> Checked
-    requires { (1 ≤ count) × (72 ≤ w) × (32 + w * count ≤ length bytes.now) }
-    ensures { result ≡ S.chain_fields w bytes.now count }
-{
-    let empty = zeros(bytes, 1, 7);
-    let first = rotary_fields(bytes, 8);
-    let second = second_fields(w, bytes, count);
-    then(empty, then(first, second))
-}
+    #[tactic(auto, unfolding(crate::specs::ChainBytes::second_at))]
+    fn second_at(self) -> RotaryJoint
+        ensures { result ≡ S.second_at self.entry.w self.entry.bytes.now self.entry.count }
+    {
+        match self.second() {
+            Some(at) => rotary_at(self.w, self.bytes, at),
+            None => no_rotary(),
+        }
+    }
 
-fn chain_at(w: usize, bytes: &[u8], count: u8) -> Kinematics
-    requires { (1 ≤ count) × (72 ≤ w) × (32 + w * count ≤ length bytes.now) }
-    ensures { result ≡ S.chain_at w bytes.now count }
-{
-    let first = rotary_at(w, bytes, 8);
-    let second = second_at(w, bytes, count);
-    let spindle_axis = vector_at(bytes, 8 + w * count as usize);
-    Kinematics {
-        count,
-        first,
-        second,
-        spindle_axis,
+    // What the bytes must be.
+    #[tactic(auto, unfolding(crate::specs::ChainBytes::chain_fields))]
+    fn chain_fields(self) -> Result<(), Refusal>
+        ensures { result ≡ S.chain_fields self.entry.w self.entry.bytes.now self.entry.count }
+    {
+        zeros(self.bytes, 1, 7)?;
+        rotary_fields(self.bytes, 8)?;
+        self.second_fields()
+    }
+
+    pub fn spindle_axis(self) -> Vec3
+        ensures { result ≡ vector_at self.entry.bytes.now (S.spindle_field self.entry.w self.entry.count) }
+    {
+        vector_at(self.bytes, 8 + self.w * self.count as usize)
+    }
+
+    #[tactic(auto, unfolding(crate::specs::ChainBytes::chain_at))]
+    fn chain_at(self) -> Kinematics
+        ensures { result ≡ S.chain_at self.entry.w self.entry.bytes.now self.entry.count }
+    {
+        Kinematics {
+            count: self.count,
+            first: rotary_at(self.w, self.bytes, 8),
+            second: self.second_at(),
+            spindle_axis: self.spindle_axis(),
+        }
     }
 }
 
-fn malformed(at: u64) -> ChainRead
+fn malformed(at: u64) -> Result<Kinematics, Refusal>
     ensures { result ≡ S.malformed at }
 {
-    ChainRead::Refused(Refusal {
-        number: refusal::MALFORMED,
-        at,
-        letter: 0,
-    })
+    Err(Refusal::new(Cause::Malformed, at))
 }
 
 // How long a record is, by the length of the chain.
+#[tactic(auto, unfolding(crate::specs::ChainBytes::record_length))]
 pub fn record_length(length: usize, count: u8) -> usize
     ensures length { result ≡ S.record_length length count }
     ensures least { 72 ≤ result }
     ensures most { result ≤ 80 }
 {
     if length == 32 + 80 * count as usize {
-        return 80;
+        80
+    } else {
+        72
     }
-    72
 }
 
 // The chain of that count with records of w bytes, or the first breach of its bytes.
-fn read_count(w: usize, bytes: &[u8], count: u8) -> ChainRead
+#[tactic(auto, unfolding(crate::specs::ChainBytes::read_count))]
+fn read_count(w: usize, bytes: &[u8], count: u8) -> Result<Kinematics, Refusal>
     requires { (72 ≤ w) × (w ≤ 80) }
     ensures { result ≡ S.read_count w bytes.now count }
 {
     if !one_or_two(count) {
-        return ChainRead::Chain(no_chain(count));
+        return Ok(no_chain(count));
     }
     if bytes.len() != 32 + w * count as usize {
         return malformed(0);
     }
-    let checked = chain_fields(w, bytes, count);
-    if let Checked::Refused(r) = checked {
-        return ChainRead::Refused(r);
-    }
-    ChainRead::Chain(chain_at(w, bytes, count))
+    let chain = ChainBytes { bytes, w, count };
+    chain.chain_fields()?;
+    Ok(chain.chain_at())
 }
 
 // The chain, or the first breach of its bytes.
-pub fn read_chain(bytes: &[u8]) -> ChainRead
+pub fn read_chain(bytes: &[u8]) -> Result<Kinematics, Refusal>
     ensures { result ≡ S.read_chain bytes.now }
 {
     if bytes.len() < 1 {

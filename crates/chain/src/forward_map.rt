@@ -1,5 +1,5 @@
-// The forward map: from the gauge point and the angles to the tool's tip and axis in the part frame. Heads move the tool, inner joint first; the part frame follows by turning the tables back, outer
-// joint first.
+// The forward map: from the gauge point and the angles to the tool's tip and axis in the part frame. Heads move the
+// tool, inner joint first; the part frame follows by turning the tables back, outer joint first.
 ghost use Rattle.std.specs.Prelude.{◌+◌, ◌*◌, ◌≤◌, ◌≡◌, length};
 ghost use Rattle.chain.specs.ChainBytes.{read_chain};
 ghost use Rattle.chain.specs.Forward as S;
@@ -8,15 +8,12 @@ ghost use Rattle.chain.specs.ReadySteps as Steps;
 use crate::bytes_at::{byte_at, vector_at};
 use crate::chain_bytes::{read_chain, record_length};
 use crate::checks::{
-    chain_check, chain_within, demand, joints_finite, joints_within, one_or_two, then, within,
+    chain_check, chain_within, demand, joints_finite, joints_within, one_or_two, within,
 };
 use crate::prepare_chain::prepare;
-use crate::ready_chain::{first_good, prepared_at, second_axis, second_good};
-use crate::{
-    ChainRead, Checked, Joints, Kinematics, Mount, Posed, Prepared, Spin, ToolPose, Turns,
-};
-use geometry::{Direction, Turn, Vec3};
-use refusal::Refusal;
+use crate::{ChainBytes, Joints, Kinematics, Mount, Prepared, Spin, ToolPose, Turns};
+use geometry::{Turn, Vec3};
+use refusal::{Cause, Refusal};
 
 // How forward turns a rotary: a head by its angle, a table by the negated angle.
 fn swing(mount: Mount, angle: f64) -> Turn
@@ -44,48 +41,50 @@ pub fn turns_of(p: Prepared, a0: f64, a1: f64) -> Turns
     Turns { first, second }
 }
 
+// These four stay apart: one function of a mount and a kind of turn would be `moved(s, Mount::Head, turn, point)` for
+// `head_point(s, turn, point)`.
 // A point moved by a rotary of the head; a table leaves it.
+#[tactic(auto, unfolding(crate::specs::Forward::head_point))]
 pub fn head_point(s: Spin, turn: Turn, point: Vec3) -> Vec3
     ensures { result ≡ S.head_point s turn point }
 {
     let mount = s.mount;
     match mount {
         Mount::Head => geometry::rotate_point(s.axis, s.pivot, point, turn),
-        Mount::Table => point,
-        Mount::Absent => point,
+        Mount::Table | Mount::Absent => point,
     }
 }
 
+#[tactic(auto, unfolding(crate::specs::Forward::head_vector))]
 pub fn head_vector(s: Spin, turn: Turn, v: Vec3) -> Vec3
     ensures { result ≡ S.head_vector s turn v }
 {
     let mount = s.mount;
     match mount {
         Mount::Head => geometry::rotate_vector(s.axis, v, turn),
-        Mount::Table => v,
-        Mount::Absent => v,
+        Mount::Table | Mount::Absent => v,
     }
 }
 
+#[tactic(auto, unfolding(crate::specs::Forward::table_point))]
 pub fn table_point(s: Spin, turn: Turn, point: Vec3) -> Vec3
     ensures { result ≡ S.table_point s turn point }
 {
     let mount = s.mount;
     match mount {
         Mount::Table => geometry::rotate_point(s.axis, s.pivot, point, turn),
-        Mount::Head => point,
-        Mount::Absent => point,
+        Mount::Head | Mount::Absent => point,
     }
 }
 
+#[tactic(auto, unfolding(crate::specs::Forward::table_vector))]
 pub fn table_vector(s: Spin, turn: Turn, v: Vec3) -> Vec3
     ensures { result ≡ S.table_vector s turn v }
 {
     let mount = s.mount;
     match mount {
         Mount::Table => geometry::rotate_vector(s.axis, v, turn),
-        Mount::Head => v,
-        Mount::Absent => v,
+        Mount::Head | Mount::Absent => v,
     }
 }
 
@@ -93,9 +92,9 @@ pub fn table_vector(s: Spin, turn: Turn, v: Vec3) -> Vec3
 fn reach(p: Prepared, turns: Turns, xyz: Vec3, tool_length: f64) -> ToolPose
     ensures { result ≡ S.reach p turns xyz tool_length }
 {
-    let gauge = geometry::scale(p.spindle, -tool_length);
+    let gauge = p.spindle * -tool_length;
     let inner = head_point(p.second, turns.second, gauge);
-    let machine = geometry::add(xyz, head_point(p.first, turns.first, inner));
+    let machine = xyz + head_point(p.first, turns.first, inner);
     let outer = table_point(p.first, turns.first, machine);
     let tip = table_point(p.second, turns.second, outer);
     let axis = reach_axis(p, turns);
@@ -121,138 +120,117 @@ pub fn forward_core(p: Prepared, turns: Turns, xyz: Vec3, tool_length: f64) -> T
     ToolPose { tip, axis }
 }
 
-// The gauge position that puts the tip on the wanted one: the difference of the two, in the machine frame. `forth` turns each table by its angle.
+// The gauge position that puts the tip on the wanted one: the difference of the two, in the machine frame. `forth`
+// turns each table by its angle.
 pub fn position(p: Prepared, forth: Turns, tip: Vec3, tip0: Vec3) -> Vec3
     ensures { result ≡ S.position p forth tip tip0 }
 {
-    let inner = table_vector(p.second, forth.second, geometry::sub(tip, tip0));
+    let inner = table_vector(p.second, forth.second, tip - tip0);
     table_vector(p.first, forth.first, inner)
 }
 
 // Finite and not below zero.
+#[tactic(auto, unfolding(crate::specs::Forward::length_good))]
 pub fn length_good(tool_length: f64) -> bool
     ensures { result ≡ S.length_good tool_length }
 {
-    if float::finite(tool_length) {
-        return !(tool_length < 0.0);
-    }
-    false
+    float::finite(tool_length) && !(tool_length < 0.0)
 }
 
+#[tactic(auto, unfolding(crate::specs::Forward::forward_sizes))]
 fn forward_sizes(k: Kinematics, j: Joints, tool_length: f64) -> bool
     ensures { result ≡ S.forward_sizes k j tool_length }
 {
-    if within(tool_length, 100000.0) {
-        if joints_within(j) {
-            return chain_within(k);
-        }
-    }
-    false
+    within(tool_length, 100000.0) && joints_within(j) && chain_within(k)
 }
 
-fn forward_check(k: Kinematics, j: Joints, tool_length: f64) -> Checked
+#[tactic(auto, unfolding(crate::specs::Forward::forward_check))]
+fn forward_check(k: Kinematics, j: Joints, tool_length: f64) -> Result<(), Refusal>
     ensures { result ≡ S.forward_check k j tool_length }
 {
-    let length = demand(length_good(tool_length), refusal::TOOL_LENGTH, 0);
-    let chain = chain_check(k);
-    let finite = demand(joints_finite(j), refusal::NOT_FINITE, 0);
-    let sizes = demand(forward_sizes(k, j, tool_length), refusal::TOO_LARGE, 0);
-    then(length, then(chain, then(finite, sizes)))
+    demand(length_good(tool_length), Cause::ToolLength, 0)?;
+    chain_check(k)?;
+    demand(joints_finite(j), Cause::NotFinite, 0)?;
+    demand(forward_sizes(k, j, tool_length), Cause::TooLarge, 0)
 }
 
 // The reached pose with its unit axis.
-fn posed(reached: ToolPose) -> Posed
+fn posed(reached: ToolPose) -> Result<ToolPose, Refusal>
     ensures { result ≡ S.posed reached }
 {
     let tip = reached.tip;
-    let Direction::Unit(axis) = geometry::unit_direction(reached.axis) else {
-        return Posed::Refused(Refusal {
-            number: refusal::SPINDLE_ZERO,
-            at: 0,
-            letter: 0,
-        });
+    let Some(axis) = geometry::unit_direction(reached.axis) else {
+        return Err(Refusal::new(Cause::SpindleZero, 0));
     };
-    Posed::At(ToolPose { tip, axis })
+    Ok(ToolPose { tip, axis })
 }
 
 // The tool pose in the part frame, or the first refusal.
-pub fn forward(k: Kinematics, j: Joints, tool_length: f64) -> Posed
+#[tactic(auto, unfolding(crate::specs::Forward::forward))]
+pub fn forward(k: Kinematics, j: Joints, tool_length: f64) -> Result<ToolPose, Refusal>
     ensures { result ≡ S.forward k j tool_length }
 {
-    let checked = forward_check(k, j, tool_length);
-    if let Checked::Refused(r) = checked {
-        return Posed::Refused(r);
-    }
+    forward_check(k, j, tool_length)?;
     let p = prepare(k);
     let turns = turns_of(p, j.a0, j.a1);
     posed(reach(p, turns, j.xyz, tool_length))
 }
 
 // A length from 0 to 100,000, and joints within their limits: all of them are finite, then.
+#[tactic(auto, unfolding(crate::specs::ReadySteps::numbers_good))]
 fn numbers_good(j: Joints, tool_length: f64) -> bool
     ensures { result ≡ Steps.numbers_good j tool_length }
 {
-    if tool_length < 0.0 {
-        return false;
-    }
-    if !within(tool_length, 100000.0) {
-        return false;
-    }
-    joints_within(j)
+    !(tool_length < 0.0) && within(tool_length, 100000.0) && joints_within(j)
 }
 
-fn refused_by(checked: Checked) -> Posed
+fn refused_by(checked: Result<(), Refusal>) -> Result<ToolPose, Refusal>
     ensures { result ≡ Steps.refused_by checked }
 {
-    match checked {
-        Checked::Passed => Posed::Refused(Refusal {
-            number: refusal::SPINDLE_ZERO,
-            at: 0,
-            letter: 0,
-        }),
-        Checked::Refused(r) => Posed::Refused(r),
-    }
+    checked?;
+    Err(Refusal::new(Cause::SpindleZero, 0))
 }
 
 // The first refusal, where there is one.
-fn refused_read(read: ChainRead, j: Joints, tool_length: f64) -> Posed
+fn refused_read(
+    read: Result<Kinematics, Refusal>,
+    j: Joints,
+    tool_length: f64,
+) -> Result<ToolPose, Refusal>
     ensures { result ≡ Steps.refused_read read j tool_length }
 {
-    match read {
-        ChainRead::Refused(r) => Posed::Refused(r),
-        ChainRead::Chain(k) => refused_by(forward_check(k, j, tool_length)),
-    }
+    refused_by(forward_check(read?, j, tool_length))
 }
 
-// With bytes of the length of that count with records of w bytes, and numbers that serve: the prepared chain does not
-// leave this function.
-fn forward_counted(w: usize, bytes: &[u8], count: u8, j: Joints, tool_length: f64) -> Posed
-    requires { (1 ≤ count) × (72 ≤ w) × (32 + w * count ≤ length bytes.now) }
-    ensures { result ≡ Steps.forward_counted w bytes.now count j tool_length }
+// With numbers that serve: the prepared chain does not leave this function.
+#[tactic(auto, unfolding(crate::specs::ReadySteps::forward_counted, crate::specs::ReadySteps::ready_counted))]
+fn forward_counted(chain: ChainBytes, j: Joints, tool_length: f64) -> Result<ToolPose, Refusal>
+    ensures { result ≡ Steps.forward_counted chain.entry.w chain.entry.bytes.now chain.entry.count j tool_length }
 {
-    if !first_good(w, bytes) {
+    let bytes = chain.bytes;
+    if !chain.first_good() {
         return refused_read(read_chain(bytes), j, tool_length);
     }
-    if !second_good(w, bytes, count) {
+    if !chain.second_good() {
         return refused_read(read_chain(bytes), j, tool_length);
     }
-    let Direction::Unit(axis) = geometry::unit_direction(vector_at(bytes, 16)) else {
+    let Some(axis) = geometry::unit_direction(vector_at(bytes, 16)) else {
         return refused_read(read_chain(bytes), j, tool_length);
     };
-    let Direction::Unit(inner) = second_axis(w, bytes, count) else {
+    let Some(inner) = chain.second_axis() else {
         return refused_read(read_chain(bytes), j, tool_length);
     };
-    let spindle_axis = vector_at(bytes, 8 + w * count as usize);
-    let Direction::Unit(spindle) = geometry::unit_direction(spindle_axis) else {
+    let Some(spindle) = geometry::unit_direction(chain.spindle_axis()) else {
         return refused_read(read_chain(bytes), j, tool_length);
     };
-    let p = prepared_at(w, bytes, count, axis, inner, spindle);
+    let p = chain.prepared_at(axis, inner, spindle);
     let turns = turns_of(p, j.a0, j.a1);
     posed(reach(p, turns, j.xyz, tool_length))
 }
 
-// `forward` of a chain's bytes: the chain is prepared while it is checked, and the refusal is looked up only where there is one.
-pub fn forward_from(bytes: &[u8], j: Joints, tool_length: f64) -> Posed
+// `forward` of a chain's bytes: the chain is prepared while it is checked, and the refusal is looked up only where
+// there is one.
+pub fn forward_from(bytes: &[u8], j: Joints, tool_length: f64) -> Result<ToolPose, Refusal>
     ensures { result ≡ S.forward_read (read_chain bytes.now) j tool_length }
 {
     if !numbers_good(j, tool_length) {
@@ -269,7 +247,7 @@ pub fn forward_from(bytes: &[u8], j: Joints, tool_length: f64) -> Posed
     if bytes.len() != 32 + w * count as usize {
         return refused_read(read_chain(bytes), j, tool_length);
     }
-    forward_counted(w, bytes, count, j, tool_length)
+    forward_counted(ChainBytes { bytes, w, count }, j, tool_length)
 }
 
 // How the position turns a rotary, from the turn by which forward moves it.

@@ -1,6 +1,9 @@
-// The rotary chain: one or two rotaries and the spindle, its bytes, its checks, and the forward map (impl Kinematics of the Rust). A chain goes in by value. What computes is total; what refuses is one list
-// of checks for each call (specs/Check.antt).
+// The rotary chain: one or two rotaries and the spindle, its bytes, its checks, and the forward map (impl Kinematics of
+// the Rust). A chain goes in by value. What computes is total; what refuses is one list of checks for each call
+// (specs/Check.antt).
 #![tactic(auto)]
+
+ghost use Rattle.std.specs.Prelude.{◌+◌, ◌*◌, ◌≤◌, length};
 
 mod bytes_at;
 mod chain_bytes;
@@ -13,14 +16,14 @@ pub use bytes_at::{byte_at, number_at, number_of, spare, u16_at, vector_at, word
 pub use chain_bytes::{no_rotary, read_chain, rotary_at, rotary_fields, zeros};
 pub use checks::{
     all_within, chain_check, chain_sizes, chain_within, demand, has_direction, joints_finite,
-    joints_within, known_letter, one_or_two, then, within,
+    joints_within, known_letter, one_or_two, within,
 };
 pub use forward_map::{
     forth_from, forward, forward_core, forward_from, head_point, head_vector, length_good,
     position, table_point, table_vector, turns_of,
 };
 use geometry::{Turn, Vec3};
-pub use prepare_chain::{checked_chain, prepare};
+pub use prepare_chain::prepare;
 use refusal::Refusal;
 
 // Which slide carries a rotary: a table turns the work, a head the tool.
@@ -37,12 +40,6 @@ pub struct RotaryLimits {
     pub max: f64,
 }
 
-#[derive(Clone, Copy)]
-pub enum Travel {
-    Unlimited,
-    Within(RotaryLimits),
-}
-
 // A pivot is a point on the axis: of a table in machine coordinates at zero angles, of a head relative to the gauge
 // point at zero head angles. The rest is the angle at which the cable hangs free: cable turns are counted from it, and
 // nothing else reads it.
@@ -50,13 +47,14 @@ pub enum Travel {
 pub struct RotaryJoint {
     pub letter: u8,
     pub carrier: Carrier,
-    pub limits: Travel,
+    pub limits: Option<RotaryLimits>,
     pub axis: Vec3,
     pub pivot: Vec3,
     pub rest: f64,
 }
 
-// Outer joints first within each carrier. `second` is read only where `count` is 2.
+// Outer joints first within each carrier. `second` is read only where `count` is 2. It is no Option: `chain_check` and
+// all that goes by it take any count, and refuse what is neither one nor two.
 #[derive(Clone, Copy)]
 pub struct Kinematics {
     pub count: u8,
@@ -65,8 +63,17 @@ pub struct Kinematics {
     pub spindle_axis: Vec3,
 }
 
-// The gauge point's position, and an angle for each rotary, in degrees.
+// The bytes of a chain of one or two rotaries, all of them there; a rotary's record has w bytes.
 #[derive(Clone, Copy)]
+struct ChainBytes<'a> {
+    bytes: &'a [u8],
+    w: usize,
+    count: u8,
+    ghost whole: { (1 ≤ count) × (72 ≤ w) × (32 + w * count ≤ length bytes.now) },
+}
+
+// The gauge point's position, and an angle for each rotary, in degrees.
+#[derive(Clone, Copy, Default)]
 pub struct Joints {
     pub xyz: Vec3,
     pub a0: f64,
@@ -78,13 +85,6 @@ pub struct Joints {
 pub struct ToolPose {
     pub tip: Vec3,
     pub axis: Vec3,
-}
-
-// What a check answers.
-#[derive(Clone, Copy)]
-pub enum Checked {
-    Passed,
-    Refused(Refusal),
 }
 
 // How a prepared rotary moves: the second rotary of a chain of one is absent.
@@ -111,43 +111,10 @@ pub struct Prepared {
     pub spindle: Vec3,
 }
 
-// For each rotary its turn: by which `forward` moves it, a head forth, a table back (turns_of); or a table forth, as the position needs it (forth_from).
+// For each rotary its turn: by which `forward` moves it, a head forth, a table back (turns_of); or a table forth, as
+// the position needs it (forth_from).
 #[derive(Clone, Copy)]
 pub struct Turns {
     pub first: Turn,
     pub second: Turn,
-}
-
-#[derive(Clone, Copy)]
-pub enum Posed {
-    At(ToolPose),
-    Refused(Refusal),
-}
-
-// What a chain's bytes hold.
-#[derive(Clone, Copy)]
-pub enum ChainRead {
-    Chain(Kinematics),
-    Refused(Refusal),
-}
-
-// A chain from its bytes: one that passes every check of its own, prepared, or one that some check refuses.
-#[derive(Clone, Copy)]
-pub enum Ready {
-    Served(Prepared),
-    Unserved,
-}
-
-// An axis with length 1, and whether it has a direction.
-#[derive(Clone, Copy)]
-struct Heading {
-    unit: Vec3,
-    directed: bool,
-}
-
-// A chain's check, and the chain prepared: of use only where the check passed.
-#[derive(Clone, Copy)]
-pub struct CheckedChain {
-    pub checked: Checked,
-    pub prepared: Prepared,
 }

@@ -8,7 +8,8 @@ use borrow.Author.Tests.{leb-true, le-leb}
 use lib.Dec.{leb}
 use lib.Ieee.{Float}
 use lib.ListN.{length}
-use Rattle.chain.specs.declared.Checked.{Checked}
+use Rattle.std.specs.Prelude.{Err, Ok}
+use Rattle.chain.specs.Checked.{Checked}
 use Rattle.chain.specs.declared.Kinematics.{Kinematics}
 use Rattle.chain.specs.Prepared.{prepared}
 use Rattle.halving.specs.Halving.{Answer, Done, TooMany, NoSpace, halve}
@@ -35,9 +36,9 @@ answer_in (AtPose r) = NoSpace 0
 answer_in (Cleared r) = NoSpace 0
 answer_in (Halved a) = a
 
-unless_passed : (c : Checked) (a b : Answer Item) → unless_kept c (Halved a) ≡ Halved b → (c ≡ Checked.Passed) × (a ≡ b)
-unless_passed Checked.Passed a b e = (refl, ap answer_in e)
-unless_passed (Checked.Refused r) a b e = absurd (false≢true (ap is_halved e))
+unless_passed : (c : Checked) (a b : Answer Item) → unless_kept c (Halved a) ≡ Halved b → (c ≡ Ok tt) × (a ≡ b)
+unless_passed (Ok _) a b e = (refl, ap answer_in e)
+unless_passed (Err r) a b e = absurd (false≢true (ap is_halved e))
 
 abbrev is_done : Answer Item → Bool
 is_done (Done n l) = true

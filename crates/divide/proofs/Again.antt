@@ -101,11 +101,11 @@ paired_each (p ∷ poses) [] a s = tt
 paired_each (p ∷ poses) (j ∷ joints) a s = (record { axis = a.0; sized = s.0 }, paired_each poses joints a.1 s.1)
 
 -- ---- the numbers of a result
-abbrev poses_of_lem : List Item → List ToolPose
-poses_of_lem r = map (λ (t : Item). t.pose) r
+abbrev poses_only : List Item → List ToolPose
+poses_only r = map (λ (t : Item). t.pose) r
 
-abbrev joints_of_lem : List Item → List Joints
-joints_of_lem r = map (λ (t : Item). t.joints) r
+abbrev joints_only : List Item → List Joints
+joints_only r = map (λ (t : Item). t.joints) r
 
 pose_finite : (p : ToolPose) (l : List Float) → tip_within p ≡ true → AxisFinite p → all finite l ≡ true → all finite (pose_numbers p ++ l) ≡ true
 unfolding all Direction.all_finite tip_within
@@ -117,12 +117,12 @@ pose_finite p l t a h =
     let y = both (finite p.axis.x) (finite p.axis.y) x.0 in
     rw (w.0, w.1, v.1, y.0, y.1, x.1) h
 
-poses_finite : (r : List Item) → Each Fine r → all tip_within (poses_of_lem r) ≡ true → all finite (flat pose_numbers (poses_of_lem r)) ≡ true
+poses_finite : (r : List Item) → Each Fine r → all tip_within (poses_only r) ≡ true → all finite (flat pose_numbers (poses_only r)) ≡ true
 unfolding all flat
 poses_finite [] f t = refl
 poses_finite (i ∷ r) f t =
-    let p = both (tip_within i.pose) (all tip_within (poses_of_lem r)) t in
-    pose_finite i.pose (flat pose_numbers (poses_of_lem r)) p.0 f.0.axis (poses_finite r f.1 p.1)
+    let p = both (tip_within i.pose) (all tip_within (poses_only r)) t in
+    pose_finite i.pose (flat pose_numbers (poses_only r)) p.0 f.0.axis (poses_finite r f.1 p.1)
 
 set_finite : (j : Joints) (l : List Float) → joints_finite j ≡ true → all finite l ≡ true → all finite (joint_numbers j ++ l) ≡ true
 unfolding all joints_finite Direction.all_finite
@@ -134,12 +134,12 @@ set_finite j l s h =
     let u = both (finite j.xyz.x) (finite j.xyz.y) t.0 in
     rw (u.0, u.1, t.1, q.1, p.1) h
 
-sets_finite : (r : List Item) → Each Fine r → all finite (flat joint_numbers (joints_of_lem r)) ≡ true
+sets_finite : (r : List Item) → Each Fine r → all finite (flat joint_numbers (joints_only r)) ≡ true
 unfolding all flat
 sets_finite [] f = refl
-sets_finite (i ∷ r) f = set_finite i.joints (flat joint_numbers (joints_of_lem r)) (sizes_finite i.joints f.0.sized.sizes) (sets_finite r f.1)
+sets_finite (i ∷ r) f = set_finite i.joints (flat joint_numbers (joints_only r)) (sizes_finite i.joints f.0.sized.sizes) (sets_finite r f.1)
 
-sets_within : (r : List Item) → Each Fine r → all joints_within (joints_of_lem r) ≡ true
+sets_within : (r : List Item) → Each Fine r → all joints_within (joints_only r) ≡ true
 unfolding all
 sets_within [] f = refl
 sets_within (i ∷ r) f = rw (f.0.sized.sizes, sets_within r f.1)
@@ -158,31 +158,31 @@ whole_of n =
     let b : n * 5 % 5 ≡ 0 = omega arith in
     rw (eq-eqb _ _ a, eq-eqb _ _ b)
 
-pub long_poses : (r : List Item) → length (flat pose_numbers (poses_of_lem r)) ≡ length r * 6
-long_poses r = length_flat pose_codec (poses_of_lem r) ∙ ap (λ (n : ℕ). n * 6) (length-map r (λ (t : Item). t.pose))
+pub long_poses : (r : List Item) → length (flat pose_numbers (poses_only r)) ≡ length r * 6
+long_poses r = length_flat pose_codec (poses_only r) ∙ ap (λ (n : ℕ). n * 6) (length-map r (λ (t : Item). t.pose))
 
-pub long_joints : (r : List Item) → length (flat joint_numbers (joints_of_lem r)) ≡ length r * 5
-long_joints r = length_flat joints_codec (joints_of_lem r) ∙ ap (λ (n : ℕ). n * 5) (length-map r (λ (t : Item). t.joints))
+pub long_joints : (r : List Item) → length (flat joint_numbers (joints_only r)) ≡ length r * 5
+long_joints r = length_flat joints_codec (joints_only r) ∙ ap (λ (n : ℕ). n * 5) (length-map r (λ (t : Item). t.joints))
 
-pub poses_back : (r : List Item) → poses_in (flat pose_numbers (poses_of_lem r)) ≡ poses_of_lem r
+pub poses_back : (r : List Item) → poses_in (flat pose_numbers (poses_only r)) ≡ poses_only r
 unfolding poses_in
 poses_back r =
-    ap (λ (n : ℕ). rows 6 pose_from (n / 6) (flat pose_numbers (poses_of_lem r))) (long_poses r)
-    ∙ ap (λ (n : ℕ). rows 6 pose_from n (flat pose_numbers (poses_of_lem r))) (sixth (length r) ∙ sym (length-map r (λ (t : Item). t.pose)))
-    ∙ rows_flat pose_codec (poses_of_lem r)
+    ap (λ (n : ℕ). rows 6 pose_from (n / 6) (flat pose_numbers (poses_only r))) (long_poses r)
+    ∙ ap (λ (n : ℕ). rows 6 pose_from n (flat pose_numbers (poses_only r))) (sixth (length r) ∙ sym (length-map r (λ (t : Item). t.pose)))
+    ∙ rows_flat pose_codec (poses_only r)
 
-joints_back : (r : List Item) → joint_sets_in (flat joint_numbers (joints_of_lem r)) ≡ joints_of_lem r
+joints_back : (r : List Item) → joint_sets_in (flat joint_numbers (joints_only r)) ≡ joints_only r
 unfolding joint_sets_in
 joints_back r =
-    ap (λ (n : ℕ). rows 5 joints_from (n / 5) (flat joint_numbers (joints_of_lem r))) (long_joints r)
-    ∙ ap (λ (n : ℕ). rows 5 joints_from n (flat joint_numbers (joints_of_lem r))) (fifth (length r) ∙ sym (length-map r (λ (t : Item). t.joints)))
-    ∙ rows_flat joints_codec (joints_of_lem r)
+    ap (λ (n : ℕ). rows 5 joints_from (n / 5) (flat joint_numbers (joints_only r))) (long_joints r)
+    ∙ ap (λ (n : ℕ). rows 5 joints_from n (flat joint_numbers (joints_only r))) (fifth (length r) ∙ sym (length-map r (λ (t : Item). t.joints)))
+    ∙ rows_flat joints_codec (joints_only r)
 
-given_back : (r : List Item) → given (flat pose_numbers (poses_of_lem r)) (flat joint_numbers (joints_of_lem r)) ≡ r
+given_back : (r : List Item) → given (flat pose_numbers (poses_only r)) (flat joint_numbers (joints_only r)) ≡ r
 given_back r =
-    ap (λ (n : ℕ). items_in n (flat pose_numbers (poses_of_lem r)) (flat joint_numbers (joints_of_lem r))) (ap (λ (n : ℕ). n / 6) (long_poses r) ∙ sixth (length r))
-    ∙ ap (λ (l : List Float). items_in (length r) l (flat joint_numbers (joints_of_lem r))) (sym (padded_full 0 nought (flat pose_numbers (poses_of_lem r)) (omega arith)))
-    ∙ ap (λ (l : List Float). items_in (length r) (padded 0 nought (flat pose_numbers (poses_of_lem r))) l) (sym (padded_full 0 nought (flat joint_numbers (joints_of_lem r)) (omega arith)))
+    ap (λ (n : ℕ). items_in n (flat pose_numbers (poses_only r)) (flat joint_numbers (joints_only r))) (ap (λ (n : ℕ). n / 6) (long_poses r) ∙ sixth (length r))
+    ∙ ap (λ (l : List Float). items_in (length r) l (flat joint_numbers (joints_only r))) (sym (padded_full 0 nought (flat pose_numbers (poses_only r)) (omega arith)))
+    ∙ ap (λ (l : List Float). items_in (length r) (padded 0 nought (flat pose_numbers (poses_only r))) l) (sym (padded_full 0 nought (flat joint_numbers (joints_only r)) (omega arith)))
     ∙ items_left r 0 0
 
 -- ---- the law
@@ -205,13 +205,13 @@ module _ (k : Kinematics) (tol : Tolerances) (poses joints : List Float) (roomPo
       let d = accepted_result k tol poses joints roomPoses roomJoints n r parts in
       each_of Fine r (steps_all (divides p tol) (midpoint p) Fine (fine_mid p reached) d.steps (of_each Fine (given poses joints) given_fine))
 
-  module _ (few : length r ≤ 100000) (tips : all tip_within (poses_of_lem r) ≡ true) (spacePoses spaceJoints : ℕ) (whole : whole_records spacePoses spaceJoints ≡ true)
+  module _ (few : length r ≤ 100000) (tips : all tip_within (poses_only r) ≡ true) (spacePoses spaceJoints : ℕ) (whole : whole_records spacePoses spaceJoints ≡ true)
       (space : length r ≤ space_in spacePoses spaceJoints) where
     abbrev ps : List Float
-    ps = flat pose_numbers (poses_of_lem r)
+    ps = flat pose_numbers (poses_only r)
 
     abbrev js : List Float
-    js = flat joint_numbers (joints_of_lem r)
+    js = flat joint_numbers (joints_only r)
 
     whole_again : four_whole (length ps) (length js) spacePoses spaceJoints ≡ true
     unfolding four_whole

@@ -8,30 +8,30 @@ use mathlib.Core.List.{List}
 use lib.Ieee.{Float}
 use lib.ListN.{length, take, replicate}
 use lib.Seq.{take_all}
+use Rattle.std.specs.Prelude.{Err, Ok, Option}
 use Rattle.float.specs.Helpers.{nought}
 use Rattle.lists.specs.Padding.{padded}
 use Rattle.lists.specs.Rows.{flat}
-use Rattle.lists.proofs.Padding.{padded_nil, take_padded}
+use Rattle.lists.proofs.Padding.{take_padded}
 use Rattle.lists.proofs.Rows.{length_flat}
 use Rattle.refusal.specs.declared.Refusal.{Refusal}
-use Rattle.refusal.specs.Numbers.{refusal, lengths_differ}
-use Rattle.chain.specs.declared.Checked.{Checked}
+use Rattle.refusal.specs.Numbers.{refusal}
+use Rattle.refusal.specs.declared.Cause.{Cause}
+use Rattle.chain.specs.Checked.{Checked}
 use Rattle.chain.specs.declared.Joints.{Joints}
 use Rattle.chain.specs.declared.Kinematics.{Kinematics}
 use Rattle.chain.specs.Check.{demand, then}
 use Rattle.chain.specs.Prepared.{prepared}
 use Rattle.chain.proofs.Passing.{refused_passed}
 use Rattle.chain.proofs.UnitAxes.{FitAxes}
-use Rattle.path.specs.declared.Start.{Start}
 use Rattle.path.specs.Solving.{PathAnswer, Along, AtPose, Kept, joint_numbers, unless_kept, solve_check, solve_checked, solve_path, checked_in, path_over}
 use Rattle.path.proofs.Along.{along_long, refused_pose, solved_along, along_one, at_pose_one, kept_one, kept_along, at_pose_along, at_pose_kept}
 use Rattle.path.specs.Closest.{bounded}
 use Rattle.path.proofs.Room.{room_passed, chain_bounded}
-use Rattle.divide.specs.declared.Division.{Division}
-use Rattle.divide.specs.declared.Division.TheVariants.{Refused}
 use Rattle.middle.specs.declared.Tolerances.{Tolerances}
+use Rattle.divide.specs.declared.DivisionError.{DivisionError}
 use Rattle.divide.specs.Checking.{division_check}
-use Rattle.divide.specs.Subdividing.{DivisionAnswer, division_in, poses_left, joints_left, given, clearing, subdivide_path, three_whole, both_check, solved_path, found_in, solve_and_divide}
+use Rattle.divide.specs.Subdividing.{DivisionAnswer, division_in, poses_left, joints_left, given, clearing, subdivide_path, three_whole, both_check, solved_path, found_in, solve_and_divide, Division}
 use Rattle.turn.specs.Items.{space_in}
 use Rattle.divide.specs.Subdividing as Ways
 use Rattle.divide.specs.Looser.{Later}
@@ -39,44 +39,44 @@ use Rattle.divide.specs.Price.{AllZero, Checks, Price, IfSolved, SolvedAndDivide
 use Rattle.turn.proofs.Stored.{joints_codec}
 use Rattle.machine.proofs.Copies.{joints_by_length}
 use Rattle.turn.proofs.Space.{space_joints}
-use Rattle.divide.proofs.PriceLent.{zero_all}
+use Rattle.divide.proofs.PriceLent.{zero_all, checks_ended}
 
 -- ---- the checks before solving
 abbrev refusal_of : Checked → Refusal
-refusal_of Checked.Passed = refusal 0 0
-refusal_of (Checked.Refused r) = r
+refusal_of (Ok _) = refusal Cause.LengthsDiffer 0
+refusal_of (Err r) = r
 
-by_check : (whole : Bool) (check : Checked) (answer : PathAnswer) (r : Refusal) → then (demand whole lengths_differ 0) check ≡ Checked.Refused r
-    → cond whole (unless_kept check answer) (Kept (refusal lengths_differ 0)) ≡ Kept r
-by_check true Checked.Passed answer r e = absurd (refused_passed (sym e))
-by_check true (Checked.Refused s) answer r e = ap Kept (ap refusal_of e)
+by_check : (whole : Bool) (check : Checked) (answer : PathAnswer) (r : Refusal) → then (demand whole Cause.LengthsDiffer 0) check ≡ Err r
+    → cond whole (unless_kept check answer) (Kept (refusal Cause.LengthsDiffer 0)) ≡ Kept r
+by_check true (Ok _) answer r e = absurd (refused_passed (sym e))
+by_check true (Err s) answer r e = ap Kept (ap refusal_of e)
 by_check false check answer r e = ap Kept (ap refusal_of e)
 
-past_check : (whole : Bool) (check : Checked) (answer : PathAnswer) → then (demand whole lengths_differ 0) check ≡ Checked.Passed
-    → (cond whole (unless_kept check answer) (Kept (refusal lengths_differ 0)) ≡ answer) × ((check ≡ Checked.Passed) × (cond whole (unless_kept check answer) (Kept (refusal lengths_differ 0)) ≡ unless_kept check answer))
-past_check true Checked.Passed answer e = (refl, (refl, refl))
-past_check true (Checked.Refused s) answer e = absurd (refused_passed e)
+past_check : (whole : Bool) (check : Checked) (answer : PathAnswer) → then (demand whole Cause.LengthsDiffer 0) check ≡ Ok tt
+    → (cond whole (unless_kept check answer) (Kept (refusal Cause.LengthsDiffer 0)) ≡ answer) × ((check ≡ Ok tt) × (cond whole (unless_kept check answer) (Kept (refusal Cause.LengthsDiffer 0)) ≡ unless_kept check answer))
+past_check true (Ok _) answer e = (refl, (refl, refl))
+past_check true (Err s) answer e = absurd (refused_passed e)
 past_check false check answer e = absurd (refused_passed e)
 
-module _ (k : Kinematics) (lent : List Float) (start : Start) (cone : Float) (roomPoses roomJoints : ℕ) where
-  kept_by : (r : Refusal) → both_check k start cone (length lent) roomPoses roomJoints ≡ Checked.Refused r → solved_path k lent start cone roomPoses roomJoints ≡ Kept r
+module _ (k : Kinematics) (lent : List Float) (start : Option Joints) (cone : Float) (roomPoses roomJoints : ℕ) where
+  kept_by : (r : Refusal) → both_check k start cone (length lent) roomPoses roomJoints ≡ Err r → solved_path k lent start cone roomPoses roomJoints ≡ Kept r
   unfolding both_check solved_path solve_path
   kept_by r e = by_check (three_whole (length lent) roomPoses roomJoints) (solve_check k start cone (length lent) (space_in roomPoses roomJoints * 5)) (solve_checked k lent start cone) r e
 
-  solved_by : both_check k start cone (length lent) roomPoses roomJoints ≡ Checked.Passed
+  solved_by : both_check k start cone (length lent) roomPoses roomJoints ≡ Ok tt
       → (solved_path k lent start cone roomPoses roomJoints ≡ solve_checked k lent start cone)
-      × ((solve_check k start cone (length lent) (space_in roomPoses roomJoints * 5) ≡ Checked.Passed)
+      × ((solve_check k start cone (length lent) (space_in roomPoses roomJoints * 5) ≡ Ok tt)
       × (solved_path k lent start cone roomPoses roomJoints ≡ solve_path k lent start cone (space_in roomPoses roomJoints * 5)))
   unfolding both_check solved_path solve_path
   solved_by e = past_check (three_whole (length lent) roomPoses roomJoints) (solve_check k start cone (length lent) (space_in roomPoses roomJoints * 5)) (solve_checked k lent start cone) e
 
-  pub room_for : both_check k start cone (length lent) roomPoses roomJoints ≡ Checked.Passed → length lent / 6 * 5 ≤ roomJoints
+  pub room_for : both_check k start cone (length lent) roomPoses roomJoints ≡ Ok tt → length lent / 6 * 5 ≤ roomJoints
   room_for e =
       let a = room_passed k start cone (length lent) (space_in roomPoses roomJoints * 5) (solved_by e).1.0 in
       let b = space_joints roomPoses roomJoints in
       omega (arith, a, b)
 
-  pub chain_for : FitAxes k → both_check k start cone (length lent) roomPoses roomJoints ≡ Checked.Passed → bounded (prepared k) ≡ true
+  pub chain_for : FitAxes k → both_check k start cone (length lent) roomPoses roomJoints ≡ Ok tt → bounded (prepared k) ≡ true
   chain_for F e = chain_bounded k start cone (length lent) (space_in roomPoses roomJoints * 5) (solved_by e).1.0 F
 
 -- ---- what is left depends on the outputs' lengths alone, but for what keeps them
@@ -87,7 +87,7 @@ cleared_by_length (Ways.AtPose r) o o' e = rw e
 cleared_by_length (Ways.Cleared r) o o' e = rw e
 cleared_by_length (Ways.Halved a) o o' e = joints_by_length a o o' e
 
-module _ (k : Kinematics) (lent : List Float) (start : Start) (cone : Float) (tol : Tolerances) (p₀ j₀ : List Float) where
+module _ (k : Kinematics) (lent : List Float) (start : Option Joints) (cone : Float) (tol : Tolerances) (p₀ j₀ : List Float) where
   abbrev whole : DivisionAnswer
   whole = solve_and_divide k lent start cone tol (length p₀) (length j₀)
 
@@ -100,7 +100,7 @@ module _ (k : Kinematics) (lent : List Float) (start : Start) (cone : Float) (to
       × ((poses ≡ poses_left whole p₀) × ((joints ≡ joints_left whole j₀) × SolvedAndDivided k lent start cone tol said p₀ j₀ poses joints))
 
   -- refused before the first pose
-  pub both_kept : {said : Division} (r : Refusal) → both_check k start cone (length lent) (length p₀) (length j₀) ≡ Checked.Refused r → said ≡ Refused r → So said p₀ j₀
+  pub both_kept : {said : Division} (r : Refusal) → both_check k start cone (length lent) (length p₀) (length j₀) ≡ Err r → said ≡ Err (DivisionError.Refused r) → So said p₀ j₀
   unfolding solve_and_divide poses_left joints_left
   both_kept r e s =
       let f : solved ≡ Kept r = kept_by k lent start cone (length p₀) (length j₀) r e in (
@@ -110,7 +110,7 @@ module _ (k : Kinematics) (lent : List Float) (start : Start) (cone : Float) (to
           (
             rw f,
             record {
-              kept = λ q w. (s ∙ ap Refused (kept_one (sym f ∙ w)), (refl, refl));
+              kept = λ q w. (s ∙ ap (λ (q : Refusal). Err (DivisionError.Refused q)) (kept_one (sym f ∙ w)), (refl, refl));
               at_pose = λ q w. absurd (at_pose_kept (sym w ∙ f));
               refused = λ l q w c. absurd (kept_along (sym f ∙ w));
               begun = λ l w c. absurd (kept_along (sym f ∙ w));
@@ -122,23 +122,22 @@ module _ (k : Kinematics) (lent : List Float) (start : Start) (cone : Float) (to
       )
 
   -- refused at a pose
-  pub both_at_pose : {said : Division} {poses joints : List Float} (r : Refusal) → both_check k start cone (length lent) (length p₀) (length j₀) ≡ Checked.Passed
-      → checked_in (solve_checked k lent start cone) ≡ Checked.Refused r → said ≡ Division.AtPose r
-      → poses ≡ padded (length p₀) nought (take 0 p₀) → joints ≡ path_over (solve_checked k lent start cone) j₀ → So said poses joints
+  pub both_at_pose : {said : Division} {poses joints : List Float} (r : Refusal) → both_check k start cone (length lent) (length p₀) (length j₀) ≡ Ok tt
+      → checked_in (solve_checked k lent start cone) ≡ Err r → said ≡ Err (DivisionError.AtPose r)
+      → poses ≡ replicate (length p₀) nought → joints ≡ path_over (solve_checked k lent start cone) j₀ → So said poses joints
   unfolding solve_and_divide poses_left joints_left path_over
   both_at_pose {said} {poses} {joints} r e h s u v =
       let g = refused_pose k lent start cone r h in
       let f : solved ≡ AtPose r = (solved_by k lent start cone (length p₀) (length j₀) e).0 ∙ g in
-      let u' : poses ≡ replicate (length p₀) nought = u ∙ padded_nil (length p₀) nought in
       let v' : joints ≡ replicate (length j₀) nought = rw g at v in (
         rw f s,
         (
-          rw f u',
+          rw f u,
           (
             rw f v',
             record {
               kept = λ q w. absurd (at_pose_kept (sym f ∙ w));
-              at_pose = λ q w. (s ∙ ap Division.AtPose (at_pose_one (sym f ∙ w)), (zero_all (length p₀) poses u', zero_all (length j₀) joints v'));
+              at_pose = λ q w. (s ∙ ap (λ (q : Refusal). Err (DivisionError.AtPose q)) (at_pose_one (sym f ∙ w)), (zero_all (length p₀) poses u, zero_all (length j₀) joints v'));
               refused = λ l q w c. absurd (at_pose_along (sym f ∙ w));
               begun = λ l w c. absurd (at_pose_along (sym f ∙ w));
               price = λ l w. absurd (at_pose_along (sym f ∙ w));
@@ -154,16 +153,16 @@ module _ (k : Kinematics) (lent : List Float) (start : Start) (cone : Float) (to
     unfolding solve_and_divide
     whole_so = rw along
 
-    division_refused : {said : Division} {poses joints : List Float} (r : Refusal) → division_check k tol lent (flat joint_numbers l) (length p₀) (length j₀) ≡ Checked.Refused r
-        → said ≡ division_in whole → poses ≡ poses_left whole p₀ → joints ≡ joints_left whole j₀ → (said ≡ Refused r) × AllZero poses joints
+    division_refused : {said : Division} {poses joints : List Float} (r : Refusal) → division_check k tol lent (flat joint_numbers l) (length p₀) (length j₀) ≡ Err r
+        → said ≡ division_in whole → poses ≡ poses_left whole p₀ → joints ≡ joints_left whole j₀ → (said ≡ Err (DivisionError.Refused r)) × AllZero poses joints
     unfolding subdivide_path poses_left joints_left
     division_refused {said} {poses} {joints} r c s u v =
         let w : whole ≡ Ways.Cleared r = whole_so ∙ (rw c) in
         (rw w at s, (zero_all (length p₀) poses (rw w at u), zero_all (length j₀) joints (rw w at v)))
 
-    division_begun : {said : Division} → division_check k tol lent (flat joint_numbers l) (length p₀) (length j₀) ≡ Checked.Passed → said ≡ division_in whole → Checks said
+    division_begun : {said : Division} → division_check k tol lent (flat joint_numbers l) (length p₀) (length j₀) ≡ Ok tt → said ≡ division_in whole → Checks said
     unfolding subdivide_path
-    division_begun {said} c s = subst Checks (sym (s ∙ ap division_in whole_so)) (rw c tt)
+    division_begun {said} c s = subst Checks (sym (s ∙ ap division_in whole_so)) (rw c (checks_ended _))
 
     pub both_along : {said : Division} {poses joints : List Float} → said ≡ division_in whole → poses ≡ poses_left whole p₀ → joints ≡ joints_left whole j₀
         → Price k tol (space_in (length p₀) (length j₀)) (given lent (flat joint_numbers l)) said poses joints
@@ -179,10 +178,10 @@ module _ (k : Kinematics) (lent : List Float) (start : Start) (cone : Float) (to
             at_pose = λ q w. absurd (at_pose_along (sym w ∙ along));
             refused = λ m q w c.
                 let e = along_one (sym w ∙ along) in
-                division_refused q (subst (λ (z : List Joints). division_check k tol lent (flat joint_numbers z) (length p₀) (length j₀) ≡ Checked.Refused q) e c) s u v;
+                division_refused q (subst (λ (z : List Joints). division_check k tol lent (flat joint_numbers z) (length p₀) (length j₀) ≡ Err q) e c) s u v;
             begun = λ m w c.
                 let e = along_one (sym w ∙ along) in
-                division_begun (subst (λ (z : List Joints). division_check k tol lent (flat joint_numbers z) (length p₀) (length j₀) ≡ Checked.Passed) e c) s;
+                division_begun (subst (λ (z : List Joints). division_check k tol lent (flat joint_numbers z) (length p₀) (length j₀) ≡ Ok tt) e c) s;
             price = λ m w.
                 let e = along_one (sym along ∙ w) in
                 subst (λ (z : List Joints). Price k tol (space_in (length p₀) (length j₀)) (given lent (flat joint_numbers z)) said poses joints) e price;
@@ -195,8 +194,8 @@ module _ (k : Kinematics) (lent : List Float) (start : Start) (cone : Float) (to
     )
 
   -- the joints that were solved stand at the front of their output
-  pub both_divided : {said : Division} {poses joints j₁ : List Float} → both_check k start cone (length lent) (length p₀) (length j₀) ≡ Checked.Passed
-      → checked_in (solve_checked k lent start cone) ≡ Checked.Passed → j₁ ≡ path_over (solve_checked k lent start cone) j₀ → length j₁ ≡ length j₀
+  pub both_divided : {said : Division} {poses joints j₁ : List Float} → both_check k start cone (length lent) (length p₀) (length j₀) ≡ Ok tt
+      → checked_in (solve_checked k lent start cone) ≡ Ok tt → j₁ ≡ path_over (solve_checked k lent start cone) j₀ → length j₁ ≡ length j₀
       → said ≡ division_in (found_in k tol lent (length p₀) j₁) → poses ≡ poses_left (found_in k tol lent (length p₀) j₁) p₀ → joints ≡ joints_left (found_in k tol lent (length p₀) j₁) j₁
       → IfSolved k tol lent (take (length lent / 6 * 5) j₁) (length p₀) (length j₁) said poses joints
       → Later k tol lent (take (length lent / 6 * 5) j₁) (length p₀) (length j₁) said poses joints → So said poses joints

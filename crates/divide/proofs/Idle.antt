@@ -7,10 +7,9 @@ use mathlib.Core.Logic.{◌⊎◌, inl, inr}
 use mathlib.Core.List.{List, [], ◌∷◌}
 use borrow.Author.Tests.{leb-true, ltb-true, ltb-false, eqb-true, eqb-false, le-leb, lt-leb}
 use lib.Dec.{eqb, leb, ltb}
-use lib.ListN.{length, take}
+use lib.ListN.{replicate, length}
 use lib.Ieee.{Float}
 use Rattle.float.specs.Helpers.{nought}
-use Rattle.lists.specs.Padding.{padded}
 use Rattle.lists.specs.Rows.{flat}
 use Rattle.lists.proofs.Padding.{padded_nil}
 use Rattle.halving.specs.Halving.{Done, NoSpace, step, halve}
@@ -30,21 +29,21 @@ less_or_not m n = go (ltb m n) (ltb-true m n) (ltb-false m n)
     go false u v = inr (v refl)
 
 -- ---- what is left of the outputs: +0.0
-poses_none : (b : Bool) (o : List Float) → padded (length o) nought [] ≡ poses_over (cond b (Done 0 []) (NoSpace 0)) o
+poses_none : (b : Bool) (o : List Float) → replicate (length o) nought ≡ poses_over (cond b (Done 0 []) (NoSpace 0)) o
 unfolding flat
-poses_none true o = refl
-poses_none false o = padded_nil (length o) nought
+poses_none true o = sym (padded_nil (length o) nought)
+poses_none false o = refl
 
-joints_none : (b : Bool) (o : List Float) → padded (length o) nought [] ≡ joints_over (cond b (Done 0 []) (NoSpace 0)) o
+joints_none : (b : Bool) (o : List Float) → replicate (length o) nought ≡ joints_over (cond b (Done 0 []) (NoSpace 0)) o
 unfolding flat
-joints_none true o = refl
-joints_none false o = padded_nil (length o) nought
+joints_none true o = sym (padded_nil (length o) nought)
+joints_none false o = refl
 
-pub idle_poses : (space count : ℕ) (o : List Float) → padded (length o) nought (take 0 o) ≡ poses_over (idle_answer space count) o
+pub idle_poses : (space count : ℕ) (o : List Float) → replicate (length o) nought ≡ poses_over (idle_answer space count) o
 unfolding idle_answer
 idle_poses space count o = poses_none (leb count space) o
 
-pub idle_joints : (space count : ℕ) (o : List Float) → padded (length o) nought (take 0 o) ≡ joints_over (idle_answer space count) o
+pub idle_joints : (space count : ℕ) (o : List Float) → replicate (length o) nought ≡ joints_over (idle_answer space count) o
 unfolding idle_answer
 idle_joints space count o = joints_none (leb count space) o
 

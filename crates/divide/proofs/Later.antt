@@ -8,13 +8,13 @@ use mathlib.Core.List.{List, map}
 use lib.Ieee.{Float}
 use lib.ListN.{length, take}
 use lib.Seq.{take_all}
+use Rattle.std.specs.Prelude.{Ok, Err}
 use Rattle.float.specs.Helpers.{nought}
 use Rattle.lists.specs.Padding.{padded}
 use Rattle.lists.specs.Rows.{flat}
 use Rattle.lists.specs.Search.{all}
 use Rattle.lists.proofs.Padding.{take_padded}
 use Rattle.refusal.specs.declared.Refusal.{Refusal}
-use Rattle.chain.specs.declared.Checked.TheVariants as Checked
 use Rattle.chain.specs.declared.Kinematics.{Kinematics}
 use Rattle.chain.specs.Prepared.{prepared}
 use Rattle.path.specs.Solving.{poses_in, joint_numbers, whole_records}
@@ -26,17 +26,16 @@ use Rattle.middle.specs.declared.Item.{Item}
 use Rattle.middle.specs.declared.Tolerances.{Tolerances}
 use Rattle.turn.specs.Items.{pose_numbers, items_in, space_in}
 use Rattle.looser.proofs.Reached.{reached_finite}
-use Rattle.divide.specs.declared.Division.{Division}
-use Rattle.divide.specs.declared.Division.TheVariants.{Refused, Ended}
+use Rattle.divide.specs.declared.DivisionError.{DivisionError}
 use Rattle.divide.specs.Checking.{FitUpTo, division_check, tip_within}
-use Rattle.divide.specs.Subdividing.{Halved, given, division_within, subdivide_path}
+use Rattle.divide.specs.Subdividing.{Halved, given, division_within, subdivide_path, Division, ended}
 use Rattle.divide.specs.Looser.{NeverDearer, path_length, Later}
 use Rattle.divide.proofs.Accepted.{Accepted, accepted_parts, accepted_result}
 use Rattle.divide.proofs.Dearer.{never_dearer}
 use Rattle.divide.proofs.Again.{divided_again, long_poses, long_joints, poses_back}
 use Rattle.divide.proofs.PriceLent.{is_ended, done_by, items_left}
 
-pub refused_later : {k : Kinematics} {tol : Tolerances} {lent solved : List Float} {roomPoses roomJoints : ℕ} {said : Division} {poses joints : List Float} {r : Refusal} → said ≡ Refused r
+pub refused_later : {k : Kinematics} {tol : Tolerances} {lent solved : List Float} {roomPoses roomJoints : ℕ} {said : Division} {poses joints : List Float} {r : Refusal} → said ≡ Err (DivisionError.Refused r)
     → Later k tol lent solved roomPoses roomJoints said poses joints
 refused_later e = record { looser = λ n w. absurd (false≢true (ap is_ended (sym e ∙ w))); again = λ n w. absurd (false≢true (ap is_ended (sym e ∙ w))) }
 
@@ -44,7 +43,7 @@ front : (m n w : ℕ) (l out : List Float) → out ≡ padded m nought l → len
 front m n w l out e h = rw (e, ← h) (take_padded m nought l (length l) (omega arith) ∙ take_all (length l) l (omega arith))
 
 module _ (k : Kinematics) (tol : Tolerances) (lent solved p₀ j₀ : List Float) (fit : FitUpTo (length solved) solved) (spindle : FitVec k.spindle_axis)
-    (passed : division_check k tol lent solved (length p₀) (length j₀) ≡ Checked.Passed) {poses joints : List Float}
+    (passed : division_check k tol lent solved (length p₀) (length j₀) ≡ Ok tt) {poses joints : List Float}
     (u : poses ≡ poses_over (division_within (prepared k) tol (space_in (length p₀) (length j₀)) (given lent solved)) p₀)
     (v : joints ≡ joints_over (division_within (prepared k) tol (space_in (length p₀) (length j₀)) (given lent solved)) j₀) where
   abbrev answer : Answer Item
@@ -79,7 +78,7 @@ module _ (k : Kinematics) (tol : Tolerances) (lent solved p₀ j₀ : List Float
         rw (poses_there, joints_there, items_there)
         (divided_again k tol lent solved (length p₀) (length j₀) n l (reached_finite k parts.checks.chain_is spindle) fit accepted (rw counted few) t a b whole (rw counted space))
 
-  pub ended_later : {said : Division} → said ≡ Ended (divided_in answer) → Later k tol lent solved (length p₀) (length j₀) said poses joints
+  pub ended_later : {said : Division} → said ≡ ended (divided_in answer) → Later k tol lent solved (length p₀) (length j₀) said poses joints
   ended_later e = record {
     looser = λ n w wider h.
         let (l, f) = done_by answer n (sym e ∙ w) in

@@ -1,4 +1,3 @@
-pub mod Scanning
 pub mod Lengths
 pub mod Checks
 pub mod Idle

@@ -11,6 +11,7 @@ use lib.Dec.{T, eqb, leb, eqb→eq, lit≤}
 use lib.ListN.{length, get_or, drop}
 use lib.Seq.{get_or-drop}
 use lib.Ieee.{Float, nan, binary64, le, lt, eq, of_bits, fits}
+use Rattle.std.specs.Prelude.{Ok}
 use Rattle.lists.specs.Each.{Each}
 use Rattle.lists.specs.Rows.{rows}
 use Rattle.lists.specs.Search.{all}
@@ -18,15 +19,13 @@ use Rattle.lists.proofs.Each.{each_passes, each_both}
 use Rattle.float.specs.Units.{U}
 use Rattle.float.specs.Helpers.{nought, size_of}
 use Rattle.float.proofs.UpTo.{UpTo}
-use Rattle.refusal.specs.Numbers as Numbers
+use Rattle.refusal.specs.declared.Cause.{Cause}
 use Rattle.geometry.specs.Slerp.{slerp_axis}
 use Rattle.geometry.proofs.AngleBetween.{angle_between}
 use Rattle.geometry.proofs.FitVectors.{FitVec, unit_or_fits}
 use Rattle.geometry.proofs.PlainSlerp.{plain_slerp, slerp_plain, slerp_fits}
-use Rattle.chain.specs.declared.Checked.TheVariants.{Passed}
 use Rattle.chain.specs.declared.Joints.{Joints}
 use Rattle.chain.specs.declared.Kinematics.{Kinematics}
-use Rattle.chain.specs.declared.Posed.TheVariants.{At}
 use Rattle.chain.specs.Check.{demand, chain_check, within, longest, joints_within, chain_within}
 use Rattle.chain.specs.Forward.{turns_of, reach, forward_core, length_good, forward_sizes, forward_check, forward}
 use Rattle.chain.specs.Prepared.{prepared}
@@ -50,7 +49,7 @@ use Rattle.divide.proofs.PricePath.{paired_given}
 -- ---- one pose
 -- `forward` answers the pose that division takes of a joint set, and takes no fallback
 pub record PosePlain (k : Kinematics) (j : Joints) : Type 0 where
-  pub answer : forward k j nought ≡ At (pose_of (prepared k) j)
+  pub answer : forward k j nought ≡ Ok (pose_of (prepared k) j)
   pub plain : ForwardPlain k j nought
 
 no_length : length_good nought ≡ true
@@ -61,8 +60,8 @@ no_tool : within nought longest ≡ true
 unfolding within size_of le lt eq of_bits
 no_tool = refl
 
-module _ (k : Kinematics) (F : FitAxes k) (passed : chain_check k ≡ Passed) (pivots : chain_within k ≡ true) where
-  joints_passed : (j : Joints) → joints_within j ≡ true → forward_check k j nought ≡ Passed
+module _ (k : Kinematics) (F : FitAxes k) (passed : chain_check k ≡ Ok tt) (pivots : chain_within k ≡ true) where
+  joints_passed : (j : Joints) → joints_within j ≡ true → forward_check k j nought ≡ Ok tt
   unfolding forward_check forward_sizes
   joints_passed j h = rw (no_length, passed, sizes_finite j h, no_tool, h, pivots)
 
@@ -87,7 +86,7 @@ pub record SegmentPlain (k : Kinematics) (x y : Item) : Type 0 where
   pub gap : axis_gap (pose_of (prepared k) x.joints).axis (pose_of (prepared k) y.joints).axis (midpoint (prepared k) x y)
       ≡ plain_angle_between (midpoint (prepared k) x y).pose.axis (plain_slerp (pose_of (prepared k) x.joints).axis (pose_of (prepared k) y.joints).axis half)
 
-module _ (k : Kinematics) (F : FitAxes k) (passed : chain_check k ≡ Passed) (pivots : chain_within k ≡ true) (x y : Item) where
+module _ (k : Kinematics) (F : FitAxes k) (passed : chain_check k ≡ Ok tt) (pivots : chain_within k ≡ true) (x y : Item) where
   gap_plain : axis_gap (pose_of (prepared k) x.joints).axis (pose_of (prepared k) y.joints).axis (midpoint (prepared k) x y)
       ≡ plain_angle_between (midpoint (prepared k) x y).pose.axis (plain_slerp (pose_of (prepared k) x.joints).axis (pose_of (prepared k) y.joints).axis half)
   unfolding axis_gap plain_angle_between midpoint
@@ -132,28 +131,28 @@ each_sized (j ∷ l) L = let f = L.0.1 in (record { sizes = L.0.0; fits_x = f.x;
 
 -- ---- what the checks of a division leave
 record Left (k : Kinematics) (poses joints : List Float) : Type 0 where
-  chain : chain_check k ≡ Passed
+  chain : chain_check k ≡ Ok tt
   pivots : chain_within k ≡ true
   sets : all joints_within (joint_sets_in joints) ≡ true
   as_many : length poses / 6 ≡ length joints / 5
 
-left : (k : Kinematics) (tol : Tolerances) (poses joints : List Float) (roomPoses roomJoints : ℕ) → division_check k tol poses joints roomPoses roomJoints ≡ Passed → Left k poses joints
+left : (k : Kinematics) (tol : Tolerances) (poses joints : List Float) (roomPoses roomJoints : ℕ) → division_check k tol poses joints roomPoses roomJoints ≡ Ok tt → Left k poses joints
 unfolding division_check checks_in_order division_sizes
 left k tol poses joints roomPoses roomJoints e =
-    let a = then_passed (demand (four_whole (length poses) (length joints) roomPoses roomJoints) Numbers.lengths_differ 0) _ e in
-    let b = then_passed (demand (tolerance_good tol.chord) Numbers.tolerance 0) _ a.1 in
-    let c = then_passed (demand (tolerance_good tol.axis) Numbers.tolerance 0) _ b.1 in
-    let d = then_passed (demand (eqb (length poses / 6) (length joints / 5)) Numbers.lengths_differ 0) _ c.1 in
+    let a = then_passed (demand (four_whole (length poses) (length joints) roomPoses roomJoints) Cause.LengthsDiffer 0) _ e in
+    let b = then_passed (demand (tolerance_good tol.chord) Cause.Tolerance 0) _ a.1 in
+    let c = then_passed (demand (tolerance_good tol.axis) Cause.Tolerance 0) _ b.1 in
+    let d = then_passed (demand (eqb (length poses / 6) (length joints / 5)) Cause.LengthsDiffer 0) _ c.1 in
     let f = then_passed (path_chain k) _ d.1 in
-    let g = then_passed (demand (all_finite poses joints) Numbers.not_finite 0) _ f.1 in
-    let s = demand_passed (chain_within k && all tip_within (poses_in poses) && all joints_within (joint_sets_in joints) && leb (length poses / 6) 100000) Numbers.too_large 0 g.1 in
+    let g = then_passed (demand (all_finite poses joints) Cause.NotFinite 0) _ f.1 in
+    let s = demand_passed (chain_within k && all tip_within (poses_in poses) && all joints_within (joint_sets_in joints) && leb (length poses / 6) 100000) Cause.TooLarge 0 g.1 in
     let u = (and-eq-true_iff (chain_within k && all tip_within (poses_in poses) && all joints_within (joint_sets_in joints)) (leb (length poses / 6) 100000)).0 s in
     let v = (and-eq-true_iff (chain_within k && all tip_within (poses_in poses)) (all joints_within (joint_sets_in joints))).0 u.0 in
     record {
       chain = chain_of_path k f.0;
       pivots = ((and-eq-true_iff (chain_within k) (all tip_within (poses_in poses))).0 v.0).0;
       sets = v.1;
-      as_many = eqb→eq (length poses / 6) (length joints / 5) (subst T (sym (demand_passed (eqb (length poses / 6) (length joints / 5)) Numbers.lengths_differ 0 d.0)) tt);
+      as_many = eqb→eq (length poses / 6) (length joints / 5) (subst T (sym (demand_passed (eqb (length poses / 6) (length joints / 5)) Cause.LengthsDiffer 0 d.0)) tt);
     }
 
 given_sized : (k : Kinematics) (poses joints : List Float) → AllFit joints → Left k poses joints → (i : Item) → Memᴰ i (given poses joints) → Sized i.joints
@@ -165,7 +164,7 @@ given_sized k poses joints f w i m =
 
 -- ---- the theorem: of any two poses that the halving comes to, after as many steps as it likes
 pub division_plain : (k : Kinematics) (tol : Tolerances) (poses joints : List Float) (roomPoses roomJoints : ℕ) → FitAxes k → ((i : ℕ) → T (fits binary64 (get_or joints i nan)))
-    → division_check k tol poses joints roomPoses roomJoints ≡ Passed → {n : ℕ} {r : List Item} → Steps (divides (prepared k) tol) (midpoint (prepared k)) (given poses joints) n r
+    → division_check k tol poses joints roomPoses roomJoints ≡ Ok tt → {n : ℕ} {r : List Item} → Steps (divides (prepared k) tol) (midpoint (prepared k)) (given poses joints) n r
     → (x y : Item) → Memᴰ x r → Memᴰ y r → SegmentPlain k x y
 unfolding midpoint
 division_plain k tol poses joints roomPoses roomJoints F f e {r = r} s x y m l =

@@ -9,12 +9,13 @@ use borrow.Author.Tests.{eq-eqb}
 use lib.Dec.{eqb}
 use lib.Ieee.{Float}
 use lib.ListN.{length}
-use Rattle.refusal.specs.Numbers.{refusal, not_finite, too_large, tolerance, lengths_differ, parallel_rotaries}
-use Rattle.chain.specs.declared.Checked.TheVariants.{Passed}
+use Rattle.std.specs.Prelude.{Ok, Option}
+use Rattle.refusal.specs.Numbers.{refusal}
+use Rattle.refusal.specs.declared.Cause.{Cause}
+use Rattle.chain.specs.declared.Joints.{Joints}
 use Rattle.chain.specs.declared.Kinematics.{Kinematics}
 use Rattle.chain.specs.Check.{demand, first_refusal, chain_check}
 use Rattle.chain.proofs.ReadyLaws.{both}
-use Rattle.path.specs.declared.Start.{Start}
 use Rattle.path.specs.Solving.{whole_records, cone_good, parallel}
 use Rattle.path.proofs.Apart.{parallel_refused, apart_kept, path_parallel}
 use Rattle.middle.specs.declared.Tolerances.{Tolerances}
@@ -25,21 +26,21 @@ use Rattle.divide.specs.Subdividing.{Kept, three_whole, subdivide_path, solved_p
 -- ---- subdivide_path
 pub division_parallel : (k : Kinematics) (tol : Tolerances) (poses joints : List Float) (roomPoses roomJoints : ℕ)
     → four_whole (length poses) (length joints) roomPoses roomJoints ≡ true → tolerance_good tol.chord ≡ true → tolerance_good tol.axis ≡ true
-    → eqb (length poses / 6) (length joints / 5) ≡ true → chain_check k ≡ Passed → parallel k ≡ true
-    → subdivide_path k tol poses joints roomPoses roomJoints ≡ Kept (refusal parallel_rotaries 0)
+    → eqb (length poses / 6) (length joints / 5) ≡ true → chain_check k ≡ Ok tt → parallel k ≡ true
+    → subdivide_path k tol poses joints roomPoses roomJoints ≡ Kept (refusal Cause.ParallelRotaries 0)
 unfolding subdivide_path division_check checks_in_order
 division_parallel k tol poses joints roomPoses roomJoints whole chord axis asMany passed par = rw (whole, chord, axis, asMany, parallel_refused k passed par)
 
 pub division_kept : (k : Kinematics) (whole chord axis asMany finite sizes : Bool) → parallel k ≡ false
     → checks_in_order k whole chord axis asMany finite sizes
     ≡ first_refusal
-    (demand whole lengths_differ 0
-    ∷ demand chord tolerance 0
-    ∷ demand axis tolerance 0
-    ∷ demand asMany lengths_differ 0
+    (demand whole Cause.LengthsDiffer 0
+    ∷ demand chord Cause.Tolerance 0
+    ∷ demand axis Cause.Tolerance 0
+    ∷ demand asMany Cause.LengthsDiffer 0
     ∷ chain_check k
-    ∷ demand finite not_finite 0
-    ∷ demand sizes too_large 0
+    ∷ demand finite Cause.NotFinite 0
+    ∷ demand sizes Cause.TooLarge 0
     ∷ [])
 unfolding checks_in_order
 division_kept k whole chord axis asMany finite sizes h = rw (apart_kept k h)
@@ -55,9 +56,9 @@ whole_space poses roomPoses roomJoints n h =
     let six = both (eqb (poses % 6) 0) (eqb (roomJoints % 5) 0) given.0 in
     rw (six.0, eq-eqb (n * 5 % 5) 0 (fifths n))
 
-pub both_parallel : (k : Kinematics) (poses : List Float) (start : Start) (cone : Float) (tol : Tolerances) (roomPoses roomJoints : ℕ)
-    → three_whole (length poses) roomPoses roomJoints ≡ true → cone_good cone ≡ true → chain_check k ≡ Passed → parallel k ≡ true
-    → solve_and_divide k poses start cone tol roomPoses roomJoints ≡ Kept (refusal parallel_rotaries 0)
+pub both_parallel : (k : Kinematics) (poses : List Float) (start : Option Joints) (cone : Float) (tol : Tolerances) (roomPoses roomJoints : ℕ)
+    → three_whole (length poses) roomPoses roomJoints ≡ true → cone_good cone ≡ true → chain_check k ≡ Ok tt → parallel k ≡ true
+    → solve_and_divide k poses start cone tol roomPoses roomJoints ≡ Kept (refusal Cause.ParallelRotaries 0)
 unfolding solve_and_divide solved_path
 both_parallel k poses start cone tol roomPoses roomJoints whole good passed par =
     rw (whole, path_parallel k start cone poses (space_in roomPoses roomJoints * 5) (whole_space (length poses) roomPoses roomJoints (space_in roomPoses roomJoints) whole) good passed par)

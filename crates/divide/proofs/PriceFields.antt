@@ -10,6 +10,7 @@ use mathlib.Core.List.{List, [], ◌∷◌, ◌++◌, Sublistᴰ}
 use lib.Ieee as Ieee
 use lib.Ieee.{Float}
 use lib.ListN.{length, take, replicate}
+use Rattle.std.specs.Prelude.{Err, Ok, Option}
 use Rattle.float.specs.Helpers.{nought, size_of}
 use Rattle.geometry.specs.Vector.{minus}
 use Rattle.lists.specs.Each.{Each}
@@ -17,28 +18,25 @@ use Rattle.lists.specs.Rows.{rows, flat, paired}
 use Rattle.lists.specs.Search.{all}
 use Rattle.lists.proofs.Rows.{length_rows, rows_flat}
 use Rattle.refusal.specs.declared.Refusal.{Refusal}
-use Rattle.refusal.specs.Numbers.{refusal, lengths_differ}
-use Rattle.chain.specs.declared.Checked.TheVariants as Checked
+use Rattle.refusal.specs.Numbers.{refusal}
+use Rattle.refusal.specs.declared.Cause.{Cause}
 use Rattle.chain.specs.declared.Joints.{Joints}
 use Rattle.chain.specs.declared.Kinematics.{Kinematics}
 use Rattle.chain.specs.declared.Prepared.{Prepared}
 use Rattle.chain.specs.declared.ToolPose.{ToolPose}
 use Rattle.chain.specs.Prepared.{prepared}
-use Rattle.path.specs.declared.Start.{Start}
 use Rattle.path.specs.Solving.{PathAnswer, Along, AtPose, Kept, pose_from, poses_in, joint_numbers, whole_records, solve_path}
 use Rattle.path.proofs.Along.{along_long, kept_along}
 use Rattle.halving.specs.Halving.{Done}
 use Rattle.halving.specs.Inserting.{Inserts}
-use Rattle.machine.specs.declared.Divided.TheVariants as Divided
 use Rattle.middle.specs.declared.Item.{Item}
 use Rattle.middle.specs.declared.Tolerances.{Tolerances}
 use Rattle.middle.specs.Testing.{least, midpoint, segment_within, divides}
 use Rattle.turn.specs.Items.{joints_from, item, items_in, space_in}
 use Rattle.turn.proofs.Stored.{joints_codec}
-use Rattle.divide.specs.declared.Division.{Division}
-use Rattle.divide.specs.declared.Division.TheVariants.{Refused, Ended}
+use Rattle.divide.specs.declared.DivisionError.{DivisionError}
 use Rattle.divide.specs.Checking.{tip_within, division_check}
-use Rattle.divide.specs.Subdividing.{Halved, given, three_whole, subdivide_path, solved_path, solve_and_divide}
+use Rattle.divide.specs.Subdividing.{Halved, given, three_whole, subdivide_path, solved_path, solve_and_divide, Division}
 use Rattle.divide.specs.Looser.{NotBelow, NeverDearer, Later}
 use Rattle.divide.specs.Price.{AllClose, Insertion, Checks, Price, SolvedAndDivided}
 
@@ -67,16 +65,16 @@ dearer_says d = (d.count, d.result, d.before, d.then, (d.accepted, d.no_more, d.
 
 pub later_says : {k : Kinematics} {tol : Tolerances} {lent solved : List Float} {a b : ℕ} {answer : Division} {poses joints : List Float}
     → Later k tol lent solved a b answer poses joints
-    → ((n : ℕ) → answer ≡ Ended (Divided.Done n) → (wider : Tolerances) → NotBelow tol wider
+    → ((n : ℕ) → answer ≡ Ok n → (wider : Tolerances) → NotBelow tol wider
     → NeverDearer k tol wider lent solved a b n (items_in (length (given lent solved) + n) poses joints))
-    × ((n : ℕ) → answer ≡ Ended (Divided.Done n) → length (given lent solved) + n ≤ 100000
+    × ((n : ℕ) → answer ≡ Ok n → length (given lent solved) + n ≤ 100000
     → all tip_within (poses_in (take ((length (given lent solved) + n) * 6) poses)) ≡ true
     → (c d : ℕ) → whole_records c d ≡ true → length (given lent solved) + n ≤ space_in c d
     → subdivide_path k tol (take ((length (given lent solved) + n) * 6) poses) (take ((length (given lent solved) + n) * 5) joints) c d
     ≡ Halved (Done 0 (items_in (length (given lent solved) + n) poses joints)))
 later_says w = (w.looser, w.again)
 
-module _ (k : Kinematics) (lent : List Float) (start : Start) (cone : Float) (tol : Tolerances) (answer : Division) (poses₀ joints₀ poses joints : List Float) where
+module _ (k : Kinematics) (lent : List Float) (start : Option Joints) (cone : Float) (tol : Tolerances) (answer : Division) (poses₀ joints₀ poses joints : List Float) where
   abbrev solved : PathAnswer
   solved = solved_path k lent start cone (length poses₀) (length joints₀)
 
@@ -84,11 +82,11 @@ module _ (k : Kinematics) (lent : List Float) (start : Start) (cone : Float) (to
   zeros = (poses ≡ replicate (length poses) nought) × (joints ≡ replicate (length joints) nought)
 
   pub both_says : SolvedAndDivided k lent start cone tol answer poses₀ joints₀ poses joints
-      → ((r : Refusal) → solved ≡ Kept r → (answer ≡ Refused r) × ((poses ≡ poses₀) × (joints ≡ joints₀)))
-      × ((r : Refusal) → solved ≡ AtPose r → (answer ≡ Division.AtPose r) × zeros)
+      → ((r : Refusal) → solved ≡ Kept r → (answer ≡ Err (DivisionError.Refused r)) × ((poses ≡ poses₀) × (joints ≡ joints₀)))
+      × ((r : Refusal) → solved ≡ AtPose r → (answer ≡ Err (DivisionError.AtPose r)) × zeros)
       × ((l : List Joints) → solved ≡ Along l
-      → ((r : Refusal) → division_check k tol lent (flat joint_numbers l) (length poses₀) (length joints₀) ≡ Checked.Refused r → (answer ≡ Refused r) × zeros)
-      × (division_check k tol lent (flat joint_numbers l) (length poses₀) (length joints₀) ≡ Checked.Passed → Checks answer)
+      → ((r : Refusal) → division_check k tol lent (flat joint_numbers l) (length poses₀) (length joints₀) ≡ Err r → (answer ≡ Err (DivisionError.Refused r)) × zeros)
+      × (division_check k tol lent (flat joint_numbers l) (length poses₀) (length joints₀) ≡ Ok tt → Checks answer)
       × Price k tol (space_in (length poses₀) (length joints₀)) (given lent (flat joint_numbers l)) answer poses joints
       × Later k tol lent (flat joint_numbers l) (length poses₀) (length joints₀) answer poses joints)
   both_says p = (p.kept, p.at_pose, λ l e. (λ r. p.refused l r e, p.begun l e, p.price l e, p.later l e))
@@ -96,7 +94,7 @@ module _ (k : Kinematics) (lent : List Float) (start : Start) (cone : Float) (to
   -- "if a division is accepted, it is accepted with both tolerances finite and equal or larger", of the call of both
   -- itself: the same poses, start, cone and space
   pub both_looser : SolvedAndDivided k lent start cone tol answer poses₀ joints₀ poses joints
-      → (l : List Joints) → solved ≡ Along l → (n : ℕ) → answer ≡ Ended (Divided.Done n) → (wider : Tolerances) → NotBelow tol wider
+      → (l : List Joints) → solved ≡ Along l → (n : ℕ) → answer ≡ Ok n → (wider : Tolerances) → NotBelow tol wider
       → (c : ℕ) × (r : List Item) × ((solve_and_divide k lent start cone wider (length poses₀) (length joints₀) ≡ Halved (Done c r)) × (c ≤ n))
   unfolding solve_and_divide
   both_looser p l e n w wider h = let d = (p.later l e).looser n w wider h in (d.count, d.result, (rw (e, d.accepted), d.no_more))
@@ -114,13 +112,13 @@ paired_back P [] (j ∷ l) e h = absurd (omega (arith, e))
 paired_back P (q ∷ poses) [] e h = tt
 paired_back P (q ∷ poses) (j ∷ l) e h = (h.0, paired_back P poses l (omega (arith, e)) h.1)
 
-solved_whole : (whole : Bool) (a : PathAnswer) (l : List Joints) → cond whole a (Kept (refusal lengths_differ 0)) ≡ Along l → a ≡ Along l
+solved_whole : (whole : Bool) (a : PathAnswer) (l : List Joints) → cond whole a (Kept (refusal Cause.LengthsDiffer 0)) ≡ Along l → a ≡ Along l
 solved_whole true a l e = e
 solved_whole false a l e = absurd (kept_along e)
 
-module _ {k : Kinematics} {lent : List Float} {start : Start} {cone : Float} {tol : Tolerances} {poses₀ joints₀ poses joints : List Float} (l : List Joints)
+module _ {k : Kinematics} {lent : List Float} {start : Option Joints} {cone : Float} {tol : Tolerances} {poses₀ joints₀ poses joints : List Float} (l : List Joints)
     (along : solved_path k lent start cone (length poses₀) (length joints₀) ≡ Along l) (n : ℕ)
-    (said : SolvedAndDivided k lent start cone tol (Ended (Divided.Done n)) poses₀ joints₀ poses joints) where
+    (said : SolvedAndDivided k lent start cone tol (Ok n) poses₀ joints₀ poses joints) where
   as_many : length l ≡ length lent / 6
   unfolding solved_path
   as_many =

@@ -7,6 +7,7 @@ use mathlib.Core.List.{List, [], ◌∷◌, ◌++◌, map}
 use lib.Ieee.{Float}
 use lib.ListN.{length, drop, replicate, length-append, length-map, length-replicate}
 use lib.Seq.{drop-append_seam}
+use Rattle.std.specs.Prelude.{Err, Ok}
 use Rattle.float.specs.Helpers.{nought}
 use Rattle.lists.specs.Padding.{padded}
 use Rattle.lists.specs.Rows.{rows, paired, flat}
@@ -19,62 +20,68 @@ use Rattle.chain.specs.declared.ToolPose.{ToolPose}
 use Rattle.chain.specs.Prepared.{prepared}
 use Rattle.path.specs.Solving.{pose_from, joint_numbers}
 use Rattle.refusal.specs.declared.Refusal.{Refusal}
-use Rattle.machine.specs.declared.Divided.TheVariants.{Done, TooMany, NoSpace}
-use Rattle.divide.specs.declared.Division.{Division}
-use Rattle.divide.specs.declared.Division.TheVariants.{Refused, AtPose, Ended}
 use Rattle.middle.specs.declared.Item.{Item}
 use Rattle.middle.specs.declared.Tolerances.{Tolerances}
+use Rattle.turn.specs.declared.Stop.{Stop}
 use Rattle.turn.specs.Items.{joints_from, pose_numbers, item, items_in}
-use Rattle.machine.specs.Dividing.{divided_in, poses_over, joints_over}
+use Rattle.machine.specs.Dividing.{Divided, divided_in, poses_over, joints_over}
+use Rattle.divide.specs.declared.DivisionError.{DivisionError}
+use Rattle.divide.specs.Subdividing.{Division, ended}
 use Rattle.divide.specs.Price.{Result, AllZero, ZeroBehind, Checks, Price}
 use Rattle.turn.proofs.Stored.{pose_codec, joints_codec}
 use Rattle.divide.proofs.Price.{Answered}
 
 -- ---- the cases of an answer
+-- a division that ended passed its checks
+pub checks_ended : (d : Divided) → Checks (ended d)
+checks_ended (Ok n) = tt
+checks_ended (Err s) = tt
+
 abbrev pub is_ended : Division → Bool
-is_ended (Refused r) = false
-is_ended (AtPose r) = false
-is_ended (Ended d) = true
+is_ended (Err (DivisionError.Refused r)) = false
+is_ended (Err (DivisionError.AtPose r)) = false
+is_ended (Ok n) = true
+is_ended (Err (DivisionError.Stopped s)) = true
 
 abbrev pub is_done : Division → Bool
-is_done (Refused r) = false
-is_done (AtPose r) = false
-is_done (Ended (Done n)) = true
-is_done (Ended (TooMany n)) = false
-is_done (Ended (NoSpace n)) = false
+is_done (Err (DivisionError.Refused r)) = false
+is_done (Err (DivisionError.AtPose r)) = false
+is_done (Ok n) = true
+is_done (Err (DivisionError.Stopped (Stop.TooMany n))) = false
+is_done (Err (DivisionError.Stopped (Stop.NoSpace n))) = false
 
 abbrev pub is_many : Division → Bool
-is_many (Refused r) = false
-is_many (AtPose r) = false
-is_many (Ended (Done n)) = false
-is_many (Ended (TooMany n)) = true
-is_many (Ended (NoSpace n)) = false
+is_many (Err (DivisionError.Refused r)) = false
+is_many (Err (DivisionError.AtPose r)) = false
+is_many (Ok n) = false
+is_many (Err (DivisionError.Stopped (Stop.TooMany n))) = true
+is_many (Err (DivisionError.Stopped (Stop.NoSpace n))) = false
 
 abbrev pub is_full : Division → Bool
-is_full (Refused r) = false
-is_full (AtPose r) = false
-is_full (Ended (Done n)) = false
-is_full (Ended (TooMany n)) = false
-is_full (Ended (NoSpace n)) = true
+is_full (Err (DivisionError.Refused r)) = false
+is_full (Err (DivisionError.AtPose r)) = false
+is_full (Ok n) = false
+is_full (Err (DivisionError.Stopped (Stop.TooMany n))) = false
+is_full (Err (DivisionError.Stopped (Stop.NoSpace n))) = true
 
 abbrev pub count_in : Division → ℕ
-count_in (Refused r) = 0
-count_in (AtPose r) = 0
-count_in (Ended (Done n)) = n
-count_in (Ended (TooMany n)) = n
-count_in (Ended (NoSpace n)) = n
+count_in (Err (DivisionError.Refused r)) = 0
+count_in (Err (DivisionError.AtPose r)) = 0
+count_in (Ok n) = n
+count_in (Err (DivisionError.Stopped (Stop.TooMany n))) = n
+count_in (Err (DivisionError.Stopped (Stop.NoSpace n))) = n
 
-pub done_by : (answer : Answer Item) (n : ℕ) → Ended (divided_in answer) ≡ Ended (Done n) → (l : List Item) × (answer ≡ Halving.Done n l)
+pub done_by : (answer : Answer Item) (n : ℕ) → ended (divided_in answer) ≡ Ok n → (l : List Item) × (answer ≡ Halving.Done n l)
 done_by (Halving.Done m l) n e = (l, ap (λ (i : ℕ). Halving.Done i l) (ap count_in e))
 done_by (Halving.TooMany m) n e = absurd (false≢true (ap is_done e))
 done_by (Halving.NoSpace m) n e = absurd (false≢true (ap is_done e))
 
-many_by : (answer : Answer Item) (n : ℕ) → Ended (divided_in answer) ≡ Ended (TooMany n) → answer ≡ Halving.TooMany n
+many_by : (answer : Answer Item) (n : ℕ) → ended (divided_in answer) ≡ Err (DivisionError.Stopped (Stop.TooMany n)) → answer ≡ Halving.TooMany n
 many_by (Halving.Done m l) n e = absurd (false≢true (ap is_many e))
 many_by (Halving.TooMany m) n e = ap Halving.TooMany (ap count_in e)
 many_by (Halving.NoSpace m) n e = absurd (false≢true (ap is_many e))
 
-full_by : (answer : Answer Item) (n : ℕ) → Ended (divided_in answer) ≡ Ended (NoSpace n) → answer ≡ Halving.NoSpace n
+full_by : (answer : Answer Item) (n : ℕ) → ended (divided_in answer) ≡ Err (DivisionError.Stopped (Stop.NoSpace n)) → answer ≡ Halving.NoSpace n
 full_by (Halving.Done m l) n e = absurd (false≢true (ap is_full e))
 full_by (Halving.TooMany m) n e = absurd (false≢true (ap is_full e))
 full_by (Halving.NoSpace m) n e = ap Halving.NoSpace (ap count_in e)
@@ -115,17 +122,17 @@ zero_all a out e = e ∙ ap (λ (k : ℕ). replicate k nought) (sym (ap length e
 
 -- ---- a division that was begun
 module _ {k : Kinematics} {tol : Tolerances} {space : ℕ} {g : List Item} (answer : Answer Item) {said : Division} (p₀ j₀ : List Float) {poses joints : List Float}
-    (a : Answered k (prepared k) tol space g answer) (e : said ≡ Ended (divided_in answer)) (u : poses ≡ poses_over answer p₀) (v : joints ≡ joints_over answer j₀) where
+    (a : Answered k (prepared k) tol space g answer) (e : said ≡ ended (divided_in answer)) (u : poses ≡ poses_over answer p₀) (v : joints ≡ joints_over answer j₀) where
   items_there : (n : ℕ) (l : List Item) → answer ≡ Halving.Done n l → length l ≡ length g + n → items_in (length g + n) poses joints ≡ l
   items_there n l f c = rw (u, v, f, ← c) (items_left l (length p₀) (length j₀))
 
-  result_there : (n : ℕ) → said ≡ Ended (Done n) → Result k (prepared k) tol g n (items_in (length g + n) poses joints)
+  result_there : (n : ℕ) → said ≡ Ok n → Result k (prepared k) tol g n (items_in (length g + n) poses joints)
   result_there n w =
       let (l, f) = done_by answer n (sym e ∙ w) in
       let r = a.divided n l f in
       subst (Result k (prepared k) tol g n) (sym (items_there n l f r.counted)) r
 
-  zero_behind : (n : ℕ) → said ≡ Ended (Done n) → ZeroBehind (length g + n) poses joints
+  zero_behind : (n : ℕ) → said ≡ Ok n → ZeroBehind (length g + n) poses joints
   zero_behind n w =
       let (l, f) = done_by answer n (sym e ∙ w) in
       let c = (a.divided n l f).counted in
@@ -135,21 +142,21 @@ module _ {k : Kinematics} {tol : Tolerances} {space : ℕ} {g : List Item} (answ
       let y : length (flat joint_numbers js) ≡ (length g + n) * 5 = length_flat joints_codec js ∙ ap (λ (i : ℕ). i * 5) (length-map l (λ (t : Item). t.joints) ∙ c) in
       (rw (u, f) (behind (length p₀) ((length g + n) * 6) (flat pose_numbers ps) x), rw (v, f) (behind (length j₀) ((length g + n) * 5) (flat joint_numbers js) y))
 
-  many_zeros : (c : ℕ) → said ≡ Ended (TooMany c) → AllZero poses joints
+  many_zeros : (c : ℕ) → said ≡ Err (DivisionError.Stopped (Stop.TooMany c)) → AllZero poses joints
   many_zeros c w =
       let f = many_by answer c (sym e ∙ w) in
       (zero_all (length p₀) poses (rw f at u), zero_all (length j₀) joints (rw f at v))
 
-  full_zeros : (c : ℕ) → said ≡ Ended (NoSpace c) → AllZero poses joints
+  full_zeros : (c : ℕ) → said ≡ Err (DivisionError.Stopped (Stop.NoSpace c)) → AllZero poses joints
   full_zeros c w =
       let f = full_by answer c (sym e ∙ w) in
       (zero_all (length p₀) poses (rw f at u), zero_all (length j₀) joints (rw f at v))
 
-  said_many : {c : ℕ} → answer ≡ Halving.TooMany c → said ≡ Ended (TooMany c)
-  said_many f = e ∙ ap (λ (z : Answer Item). Ended (divided_in z)) f
+  said_many : {c : ℕ} → answer ≡ Halving.TooMany c → said ≡ Err (DivisionError.Stopped (Stop.TooMany c))
+  said_many f = e ∙ ap (λ (z : Answer Item). ended (divided_in z)) f
 
-  said_full : {c : ℕ} → answer ≡ Halving.NoSpace c → said ≡ Ended (NoSpace c)
-  said_full f = e ∙ ap (λ (z : Answer Item). Ended (divided_in z)) f
+  said_full : {c : ℕ} → answer ≡ Halving.NoSpace c → said ≡ Err (DivisionError.Stopped (Stop.NoSpace c))
+  said_full f = e ∙ ap (λ (z : Answer Item). ended (divided_in z)) f
 
   pub begun_price : length g ≤ space → Price k tol space g said poses joints
   begun_price room = record {
@@ -168,7 +175,7 @@ module _ {k : Kinematics} {tol : Tolerances} {space : ℕ} {g : List Item} (answ
 
 -- ---- without space for what is given
 pub none_price : {k : Kinematics} {tol : Tolerances} {space : ℕ} {g : List Item} {said : Division} (p₀ j₀ : List Float) {poses joints : List Float}
-    → space < length g → said ≡ Ended (NoSpace 0) → poses ≡ replicate (length p₀) nought → joints ≡ replicate (length j₀) nought → Price k tol space g said poses joints
+    → space < length g → said ≡ Err (DivisionError.Stopped (Stop.NoSpace 0)) → poses ≡ replicate (length p₀) nought → joints ≡ replicate (length j₀) nought → Price k tol space g said poses joints
 none_price {space = space} {g = g} {said = said} p₀ j₀ {poses} {joints} h e u v = record {
   divided = λ n w. absurd (false≢true (ap is_done (sym e ∙ w)));
   unused = λ n w. absurd (false≢true (ap is_done (sym e ∙ w)));
@@ -184,7 +191,7 @@ none_price {space = space} {g = g} {said = said} p₀ j₀ {poses} {joints} h e 
 }
 
 -- ---- refused before the first test
-pub refused_price : {k : Kinematics} {tol : Tolerances} {space : ℕ} {g : List Item} {said : Division} {poses joints : List Float} {r : Refusal} → said ≡ Refused r → Price k tol space g said poses joints
+pub refused_price : {k : Kinematics} {tol : Tolerances} {space : ℕ} {g : List Item} {said : Division} {poses joints : List Float} {r : Refusal} → said ≡ Err (DivisionError.Refused r) → Price k tol space g said poses joints
 refused_price {said = said} {r = r} e = record {
   divided = λ n w. absurd (false≢true (ap is_ended (sym e ∙ w)));
   unused = λ n w. absurd (false≢true (ap is_ended (sym e ∙ w)));

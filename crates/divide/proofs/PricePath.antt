@@ -11,17 +11,16 @@ use lib.Dec.{T, leb}
 use lib.Ieee.{Float, binary64, fits, nan}
 use lib.ListN.{length, get_or, drop, get_or-eq_default}
 use lib.Seq.{get_or-drop}
+use Rattle.std.specs.Prelude.{Ok, Option}
 use Rattle.lists.specs.Rows.{rows, paired}
 use Rattle.lists.specs.Each.{Each}
 use Rattle.lists.specs.Search.{all}
-use Rattle.chain.specs.declared.Checked.TheVariants as Checked
 use Rattle.chain.specs.declared.Joints.{Joints}
 use Rattle.chain.specs.declared.Kinematics.{Kinematics}
 use Rattle.chain.specs.declared.Prepared.{Prepared}
 use Rattle.chain.specs.declared.ToolPose.{ToolPose}
 use Rattle.chain.specs.Check.{joints_within, chain_within}
 use Rattle.chain.proofs.ReadyLaws.{both}
-use Rattle.path.specs.declared.Start.{Start}
 use Rattle.path.specs.Promise.{Served, OnPath}
 use Rattle.path.specs.Solving.{Along, pose_from, poses_in, solve_path}
 use Rattle.path.proofs.Promises.{path_served}
@@ -62,7 +61,7 @@ each_limited : (k : Kinematics) (l : List Joints) → Each (Served k) l → Each
 each_limited k [] s f = tt
 each_limited k (j ∷ l) s f = (served_limited k j s.0 f.0.fits_a0 f.0.fits_a1, each_limited k l s.1 f.1)
 
-module _ (k : Kinematics) (poses : List Float) (start : Start) (cone : Float) (room : ℕ) (l : List Joints) (solved : solve_path k poses start cone room ≡ Along l) (sizes : Each Sized l) where
+module _ (k : Kinematics) (poses : List Float) (start : Option Joints) (cone : Float) (room : ℕ) (l : List Joints) (solved : solve_path k poses start cone room ≡ Along l) (sizes : Each Sized l) where
   pub path_limited : Each (Limited k) l
   path_limited = each_limited k l (subst (OnPath (Served k)) solved (path_served k poses start cone room)) sizes
 
@@ -86,7 +85,7 @@ all_fit l f i = go (less_or_not i (length l))
 
 -- those of a division whose checks pass
 pub given_sets_sized : (k : Kinematics) (tol : Tolerances) (lent solved : List Float) (roomPoses roomJoints : ℕ)
-    → division_check k tol lent solved roomPoses roomJoints ≡ Checked.Passed → FitUpTo (length solved) solved → Each Sized (rows 5 joints_from (length lent / 6) solved)
+    → division_check k tol lent solved roomPoses roomJoints ≡ Ok tt → FitUpTo (length solved) solved → Each Sized (rows 5 joints_from (length lent / 6) solved)
 unfolding division_sizes joint_sets_in
 given_sets_sized k tol lent solved roomPoses roomJoints e f =
     let p = all_pass k tol lent solved roomPoses roomJoints e in
@@ -96,7 +95,7 @@ given_sets_sized k tol lent solved roomPoses roomJoints e f =
     sized_rows (length lent / 6) solved (all_fit solved f) (rw n t.1)
 
 pub given_sized : (k : Kinematics) (tol : Tolerances) (lent solved : List Float) (roomPoses roomJoints : ℕ)
-    → division_check k tol lent solved roomPoses roomJoints ≡ Checked.Passed → FitUpTo (length solved) solved → (i : Item) → Memᴰ i (given lent solved) → Sized i.joints
+    → division_check k tol lent solved roomPoses roomJoints ≡ Ok tt → FitUpTo (length solved) solved → (i : Item) → Memᴰ i (given lent solved) → Sized i.joints
 unfolding items_in
 given_sized k tol lent solved roomPoses roomJoints e f i m =
     paired_given item (λ q j. refl) Sized (rows 6 pose_from (length lent / 6) lent) (rows 5 joints_from (length lent / 6) solved)

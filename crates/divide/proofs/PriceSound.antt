@@ -8,14 +8,14 @@ use lib.Ieee as Ieee
 use lib.Ieee.{Float, binary64, le, fits, of_bits}
 use lib.Ieee.Bits.{of_bits-fits}
 use lib.Ieee.Fits.{add-fits}
+use Rattle.std.specs.Prelude.{None, Option, Some}
 use Rattle.float.proofs.Between.{big, Tame, tame_of, half_portion, way_between, way_size, ten_million_big}
 use Rattle.float.proofs.Sizes.{size_le_parts}
 use Rattle.geometry.specs.declared.Vec3.{Vec3}
 use Rattle.geometry.specs.Vector.{lerp, lerp_vec}
+use Rattle.chain.specs.declared.RotaryLimits.{RotaryLimits}
 use Rattle.chain.specs.declared.Joints.{Joints}
 use Rattle.chain.specs.declared.Kinematics.{Kinematics}
-use Rattle.chain.specs.declared.Travel.{Travel}
-use Rattle.chain.specs.declared.Travel.TheVariants.{Unlimited, Within}
 use Rattle.chain.specs.Check.{contains, within, all_within, farthest, most_turned, joints_finite, joints_within}
 use Rattle.chain.proofs.ReadyLaws.{both, within_finite, all_within_finite, over_farthest, over_turned}
 use Rattle.path.specs.Unwinding.{permits, first_inside, second_inside, inside}
@@ -44,14 +44,14 @@ module _ (a b : Float) (fa : T (fits binary64 a)) (fb : T (fits binary64 b)) whe
   unfolding within
   mid_within c h x y = way_size a b half c fa fb half_fits h half_portion x y
 
-  mid_permitted : (t : Travel) → within a most_turned ≡ true → within b most_turned ≡ true → permits t a ≡ true → permits t b ≡ true → permits t (lerp a b half) ≡ true
+  mid_permitted : (t : Option RotaryLimits) → within a most_turned ≡ true → within b most_turned ≡ true → permits t a ≡ true → permits t b ≡ true → permits t (lerp a b half) ≡ true
   unfolding contains
-  mid_permitted (Within l) x y g h =
+  mid_permitted (Some l) x y g h =
       let p = both (le l.min a) (le a l.max) g in
       let q = both (le l.min b) (le b l.max) h in
       let w = way_between a b half fa fb half_fits (turned_tame a x) (turned_tame b y) half_portion l.min l.max p.0 q.0 p.1 q.1 in
       rw (w.0, w.1)
-  mid_permitted Unlimited x y g h = within_finite most_turned over_turned (lerp a b half) (mid_within most_turned turned_big x y)
+  mid_permitted None x y g h = within_finite most_turned over_turned (lerp a b half) (mid_within most_turned turned_big x y)
 
 -- ---- three numbers
 pub mid_all_within : (c : Float) → le c big ≡ true → (u v : Vec3) → T (fits binary64 u.x) → T (fits binary64 u.y) → T (fits binary64 u.z) → T (fits binary64 v.x) → T (fits binary64 v.y) → T (fits binary64 v.z)
@@ -69,7 +69,7 @@ mid_all_within c h u v ux uy uz vx vy vz g k =
     )
 
 -- ---- the limits: the second angle of a chain of one is not looked at
-second_mid : (two : Bool) (t : Travel) (a b c : Float) → (permits t a ≡ true → permits t b ≡ true → permits t c ≡ true)
+second_mid : (two : Bool) (t : Option RotaryLimits) (a b c : Float) → (permits t a ≡ true → permits t b ≡ true → permits t c ≡ true)
     → cond two (permits t a) true ≡ true → cond two (permits t b) true ≡ true → cond two (permits t c) true ≡ true
 second_mid true t a b c f g h = f g h
 second_mid false t a b c f g h = refl
@@ -97,9 +97,9 @@ module _ (k : Kinematics) (a b : Joints) (A : Limited k a) (B : Limited k b) whe
   unfolding first_inside lerp_joints
   first_mid c g h = mid_permitted a.a0 b.a0 A.fits_a0 B.fits_a0 c.outer (turned_parts a A.turns).0 (turned_parts b B.turns).0 g h
 
-  second_inside_lem : (c : Bounds) → second_inside c a ≡ true → second_inside c b ≡ true → second_inside c (lerp_joints a b) ≡ true
+  second_inside_between : (c : Bounds) → second_inside c a ≡ true → second_inside c b ≡ true → second_inside c (lerp_joints a b) ≡ true
   unfolding second_inside lerp_joints
-  second_inside_lem c g h =
+  second_inside_between c g h =
       second_mid c.two c.inner a.a1 b.a1 (lerp a.a1 b.a1 half)
       (mid_permitted a.a1 b.a1 A.fits_a1 B.fits_a1 c.inner (turned_parts a A.turns).1 (turned_parts b B.turns).1) g h
 
@@ -108,7 +108,7 @@ module _ (k : Kinematics) (a b : Joints) (A : Limited k a) (B : Limited k b) whe
   inside_mid c g h =
       let p = inside_parts c a g in
       let q = inside_parts c b h in
-      rw (first_mid c p.0 q.0, second_inside_lem c p.1 q.1)
+      rw (first_mid c p.0 q.0, second_inside_between c p.1 q.1)
 
   turned_mid : turned_within (lerp_joints a b) ≡ true
   unfolding turned_within lerp_joints

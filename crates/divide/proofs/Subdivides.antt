@@ -7,42 +7,37 @@ use mathlib.Core.Logic.{◌⊎◌, inl, inr}
 use mathlib.Core.List.{List, Memᴰ}
 use lib.Dec.{T}
 use lib.Ieee.{Float, binary64, fits, nan}
-use lib.ListN.{length, take, drop, take-append-drop}
+use lib.ListN.{replicate, length, take, drop, take-append-drop}
 use lib.Seq.{length-take-le, get_or-take, take_all}
+use Rattle.std.specs.Prelude.{Err, Ok, Option}
 use Rattle.float.specs.Helpers.{nought}
-use Rattle.lists.specs.Padding.{padded}
 use Rattle.lists.specs.Rows.{rows, paired, flat}
-use Rattle.lists.proofs.Padding.{padded_nil}
 use Rattle.lists.proofs.Rows.{rows_flat}
 use Rattle.refusal.specs.declared.Refusal.{Refusal}
-use Rattle.chain.specs.declared.Checked.TheVariants as Checked
 use Rattle.chain.specs.declared.Joints.{Joints}
 use Rattle.chain.specs.declared.Kinematics.{Kinematics}
 use Rattle.chain.specs.Prepared.{prepared}
 use Rattle.chain.proofs.Passing.{refused_passed}
-use Rattle.path.specs.declared.Start.{Start}
 use Rattle.lists.specs.Each.{Each}
 use Rattle.path.specs.Solving.{Along, pose_from, joint_numbers, solve_path}
 use Rattle.path.proofs.Along.{along_long}
 use Rattle.geometry.proofs.FitVectors.{FitVec}
-use Rattle.machine.specs.declared.Divided.{Divided}
-use Rattle.divide.specs.declared.Division.{Division}
-use Rattle.divide.specs.declared.Division.TheVariants.{Refused, Ended}
 use Rattle.middle.specs.declared.Item.{Item}
 use Rattle.middle.specs.declared.Tolerances.{Tolerances}
 use Rattle.turn.specs.Items.{joints_from, item, items_in, space_in}
+use Rattle.divide.specs.declared.DivisionError.{DivisionError}
 use Rattle.divide.specs.Checking.{FitUpTo, division_check}
-use Rattle.machine.specs.Dividing.{division, divided_in, poses_over, joints_over}
-use Rattle.divide.specs.Subdividing.{division_in, poses_left, joints_left, given, division_within, subdivide_path, found_in}
+use Rattle.machine.specs.Dividing.{division, divided_in, poses_over, joints_over, Divided}
+use Rattle.divide.specs.Subdividing.{division_in, poses_left, joints_left, given, division_within, subdivide_path, found_in, Division, ended}
 use Rattle.divide.specs.Looser.{Later}
-use Rattle.divide.specs.Price.{Price, IfSolved}
+use Rattle.divide.specs.Price.{Price, IfSolved, Checks}
 use Rattle.turn.proofs.Stored.{joints_codec}
 use Rattle.machine.proofs.Copies.{joints_front}
 use Rattle.divide.proofs.Idle.{less_or_not, busy_within, full_within}
 use Rattle.divide.proofs.Price.{Answered, priced}
 use Rattle.divide.proofs.PriceSound.{Limited, Sized}
 use Rattle.divide.proofs.PricePath.{paired_given, path_limited, given_sets_sized, given_sized}
-use Rattle.divide.proofs.PriceLent.{begun_price, none_price, refused_price}
+use Rattle.divide.proofs.PriceLent.{begun_price, none_price, refused_price, checks_ended}
 use Rattle.divide.proofs.Later.{refused_later, ended_later}
 
 -- ---- every joint set that was solved is within its limits, and within the sizes that were checked
@@ -52,7 +47,7 @@ taken_fit n l h f =
     record { fit = λ i p. let q : i < n = rw e at p in subst (λ (x : Float). T (fits binary64 x)) (sym (get_or-take n l i nan q)) (f.fit i q) }
 
 module _ (k : Kinematics) (tol : Tolerances) (lent solved : List Float) (roomPoses roomJoints : ℕ)
-    (passed : division_check k tol lent solved roomPoses roomJoints ≡ Checked.Passed) (fit : FitUpTo (length solved) solved) (start : Start) (cone : Float) (room : ℕ)
+    (passed : division_check k tol lent solved roomPoses roomJoints ≡ Ok tt) (fit : FitUpTo (length solved) solved) (start : Option Joints) (cone : Float) (room : ℕ)
     (l : List Joints) (along : solve_path k lent start cone room ≡ Along l) (is : solved ≡ flat joint_numbers l) where
   rows_solved : rows 5 joints_from (length lent / 6) solved ≡ l
   rows_solved =
@@ -73,7 +68,7 @@ module _ (k : Kinematics) (tol : Tolerances) (lent solved : List Float) (roomPos
   unfolding division
   answered space h = priced (prepared k) tol k space (given lent solved) h given_limited (given_sized k tol lent solved roomPoses roomJoints passed fit)
 
-  ended_price : (space : ℕ) {said : Division} {poses joints : List Float} (p₀ j₀ : List Float) → said ≡ Ended (divided_in (division_within (prepared k) tol space (given lent solved)))
+  ended_price : (space : ℕ) {said : Division} {poses joints : List Float} (p₀ j₀ : List Float) → said ≡ ended (divided_in (division_within (prepared k) tol space (given lent solved)))
       → poses ≡ poses_over (division_within (prepared k) tol space (given lent solved)) p₀ → joints ≡ joints_over (division_within (prepared k) tol space (given lent solved)) j₀
       → Price k tol space (given lent solved) said poses joints
   ended_price space {said} {poses} {joints} p₀ j₀ e u v = go (less_or_not space (length (given lent solved)))
@@ -92,7 +87,7 @@ pub all_taken : (k : Kinematics) (tol : Tolerances) (lent solved : List Float) (
 all_taken k tol lent solved roomPoses roomJoints = ap (λ (l : List Float). division_check k tol lent l roomPoses roomJoints) (take_all (length solved) solved (omega arith))
 
 module _ (k : Kinematics) (tol : Tolerances) (lent solved p₀ j₀ : List Float) where
-  pub subdivide_refused : {said : Division} {r : Refusal} → division_check k tol lent solved (length p₀) (length j₀) ≡ Checked.Refused r → said ≡ Refused r
+  pub subdivide_refused : {said : Division} {r : Refusal} → division_check k tol lent solved (length p₀) (length j₀) ≡ Err r → said ≡ Err (DivisionError.Refused r)
       → (said ≡ division_in (subdivide_path k tol lent solved (length p₀) (length j₀)))
       × ((p₀ ≡ poses_left (subdivide_path k tol lent solved (length p₀) (length j₀)) p₀)
       × ((j₀ ≡ joints_left (subdivide_path k tol lent solved (length p₀) (length j₀)) j₀) × (IfSolved k tol lent solved (length p₀) (length j₀) said p₀ j₀ × Later k tol lent solved (length p₀) (length j₀) said p₀ j₀)))
@@ -100,28 +95,29 @@ module _ (k : Kinematics) (tol : Tolerances) (lent solved p₀ j₀ : List Float
   subdivide_refused e s =
       (rw e s, (rw e, (rw e, (record { begun = λ w. absurd (refused_passed (sym e ∙ w)); price = λ start cone room l a i. refused_price s }, refused_later s))))
 
-  pub subdivide_ended : {ended : Divided} {poses joints : List Float} → division_check k tol lent solved (length p₀) (length j₀) ≡ Checked.Passed → FitUpTo (length solved) solved → FitVec k.spindle_axis
-      → ended ≡ divided_in (division_within (prepared k) tol (space_in (length p₀) (length j₀)) (given lent solved))
+  pub subdivide_ended : {said : Division} {how : Divided} {poses joints : List Float} → division_check k tol lent solved (length p₀) (length j₀) ≡ Ok tt → FitUpTo (length solved) solved → FitVec k.spindle_axis
+      → how ≡ divided_in (division_within (prepared k) tol (space_in (length p₀) (length j₀)) (given lent solved))
       → poses ≡ poses_over (division_within (prepared k) tol (space_in (length p₀) (length j₀)) (given lent solved)) p₀
       → joints ≡ joints_over (division_within (prepared k) tol (space_in (length p₀) (length j₀)) (given lent solved)) j₀
-      → (Ended ended ≡ division_in (subdivide_path k tol lent solved (length p₀) (length j₀)))
+      → said ≡ ended how
+      → (said ≡ division_in (subdivide_path k tol lent solved (length p₀) (length j₀)))
       × ((poses ≡ poses_left (subdivide_path k tol lent solved (length p₀) (length j₀)) p₀)
-      × ((joints ≡ joints_left (subdivide_path k tol lent solved (length p₀) (length j₀)) j₀) × (IfSolved k tol lent solved (length p₀) (length j₀) (Ended ended) poses joints
-      × Later k tol lent solved (length p₀) (length j₀) (Ended ended) poses joints)))
+      × ((joints ≡ joints_left (subdivide_path k tol lent solved (length p₀) (length j₀)) j₀) × (IfSolved k tol lent solved (length p₀) (length j₀) said poses joints
+      × Later k tol lent solved (length p₀) (length j₀) said poses joints)))
   unfolding subdivide_path poses_left joints_left
-  subdivide_ended e f spindle s u v = (
-    rw e (ap Ended s),
+  subdivide_ended {how = how} e f spindle s u v q = (
+    rw e (q ∙ ap ended s),
     (
       rw e u,
       (
         rw e v,
         (
           record {
-            begun = λ w. tt;
+            begun = λ w. subst Checks (sym q) (checks_ended how);
             price = λ start cone room l a i.
-                ended_price k tol lent solved (length p₀) (length j₀) e f start cone room l a i (space_in (length p₀) (length j₀)) p₀ j₀ (ap Ended s) u v;
+                ended_price k tol lent solved (length p₀) (length j₀) e f start cone room l a i (space_in (length p₀) (length j₀)) p₀ j₀ (q ∙ ap ended s) u v;
           },
-          ended_later k tol lent solved p₀ j₀ f spindle e u v (ap Ended s),
+          ended_later k tol lent solved p₀ j₀ f spindle e u v (q ∙ ap ended s),
         ),
       ),
     ),
@@ -132,8 +128,8 @@ module _ (k : Kinematics) (tol : Tolerances) (lent p₀ j₀ : List Float) where
   abbrev found : List Float
   found = take (length lent / 6 * 5) j₀
 
-  pub found_refused : {said : Division} {r : Refusal} {poses joints : List Float} → division_check k tol lent found (length p₀) (length j₀) ≡ Checked.Refused r → said ≡ Refused r
-      → poses ≡ padded (length p₀) nought (take 0 p₀) → joints ≡ padded (length j₀) nought (take 0 j₀)
+  pub found_refused : {said : Division} {r : Refusal} {poses joints : List Float} → division_check k tol lent found (length p₀) (length j₀) ≡ Err r → said ≡ Err (DivisionError.Refused r)
+      → poses ≡ replicate (length p₀) nought → joints ≡ replicate (length j₀) nought
       → (said ≡ division_in (found_in k tol lent (length p₀) j₀))
       × ((poses ≡ poses_left (found_in k tol lent (length p₀) j₀) p₀)
       × ((joints ≡ joints_left (found_in k tol lent (length p₀) j₀) j₀) × (IfSolved k tol lent found (length p₀) (length j₀) said poses joints × Later k tol lent found (length p₀) (length j₀) said poses joints)))
@@ -141,9 +137,9 @@ module _ (k : Kinematics) (tol : Tolerances) (lent p₀ j₀ : List Float) where
   found_refused e s u v = (
     rw e s,
     (
-      rw e (u ∙ padded_nil (length p₀) nought),
+      rw e u,
       (
-        rw e (v ∙ padded_nil (length j₀) nought),
+        rw e v,
         (record { begun = λ w. absurd (refused_passed (sym e ∙ w)); price = λ start cone room l a i. refused_price s }, refused_later s),
       ),
     ),
@@ -154,33 +150,34 @@ module _ (k : Kinematics) (tol : Tolerances) (lent p₀ j₀ : List Float) where
       ap (given lent) (sym (take-append-drop (length lent / 6 * 5) j₀))
       ∙ joints_front (length lent / 6) lent found (drop (length lent / 6 * 5) j₀) (length-take-le (length lent / 6 * 5) j₀ h)
 
-  pub found_ended : {ended : Divided} {poses joints : List Float} → length lent / 6 * 5 ≤ length j₀ → division_check k tol lent found (length p₀) (length j₀) ≡ Checked.Passed
+  pub found_ended : {said : Division} {how : Divided} {poses joints : List Float} → length lent / 6 * 5 ≤ length j₀ → division_check k tol lent found (length p₀) (length j₀) ≡ Ok tt
       → FitUpTo (length lent / 6 * 5) j₀ → FitVec k.spindle_axis
-      → ended ≡ divided_in (division_within (prepared k) tol (space_in (length p₀) (length j₀)) (given lent j₀))
+      → how ≡ divided_in (division_within (prepared k) tol (space_in (length p₀) (length j₀)) (given lent j₀))
       → poses ≡ poses_over (division_within (prepared k) tol (space_in (length p₀) (length j₀)) (given lent j₀)) p₀
       → joints ≡ joints_over (division_within (prepared k) tol (space_in (length p₀) (length j₀)) (given lent j₀)) j₀
-      → (Ended ended ≡ division_in (found_in k tol lent (length p₀) j₀))
+      → said ≡ ended how
+      → (said ≡ division_in (found_in k tol lent (length p₀) j₀))
       × ((poses ≡ poses_left (found_in k tol lent (length p₀) j₀) p₀)
-      × ((joints ≡ joints_left (found_in k tol lent (length p₀) j₀) j₀) × (IfSolved k tol lent found (length p₀) (length j₀) (Ended ended) poses joints
-      × Later k tol lent found (length p₀) (length j₀) (Ended ended) poses joints)))
+      × ((joints ≡ joints_left (found_in k tol lent (length p₀) j₀) j₀) × (IfSolved k tol lent found (length p₀) (length j₀) said poses joints
+      × Later k tol lent found (length p₀) (length j₀) said poses joints)))
   unfolding found_in subdivide_path poses_left joints_left
-  found_ended h e f spindle s u v =
+  found_ended {how = how} h e f spindle s u v q =
       let g = front_found h in
       let s' = rw g at s in
       let u' = rw g at u in
       let v' = rw g at v in (
-        rw e (ap Ended s'),
+        rw e (q ∙ ap ended s'),
         (
           rw e u',
           (
             rw e v',
             (
               record {
-                begun = λ w. tt;
+                begun = λ w. subst Checks (sym q) (checks_ended how);
                 price = λ start cone room l a i.
-                    ended_price k tol lent found (length p₀) (length j₀) e (taken_fit (length lent / 6 * 5) j₀ h f) start cone room l a i (space_in (length p₀) (length j₀)) p₀ j₀ (ap Ended s') u' v';
+                    ended_price k tol lent found (length p₀) (length j₀) e (taken_fit (length lent / 6 * 5) j₀ h f) start cone room l a i (space_in (length p₀) (length j₀)) p₀ j₀ (q ∙ ap ended s') u' v';
               },
-              ended_later k tol lent found p₀ j₀ (taken_fit (length lent / 6 * 5) j₀ h f) spindle e u' v' (ap Ended s'),
+              ended_later k tol lent found p₀ j₀ (taken_fit (length lent / 6 * 5) j₀ h f) spindle e u' v' (q ∙ ap ended s'),
             ),
           ),
         ),

@@ -5,6 +5,7 @@ use mathlib.Core.Path.{◌≡◌, refl}
 use mathlib.Core.List.{List, [], ◌∷◌}
 use lib.Ieee as Ieee
 use lib.Ieee.{Float, binary64, of_bits}
+use Rattle.std.specs.Prelude.{None}
 use Rattle.lists.specs.Rows.{rows, flat, paired}
 use Rattle.lists.specs.Search.{all}
 use Rattle.float.specs.Helpers.{nought, one, size_of, round_half_away, clamp_unit, to_degrees}
@@ -22,7 +23,6 @@ use Rattle.geometry.specs.Slerp.{slerp_cosine, slerp_axis, angle_between_deg}
 use Rattle.chain.specs.declared.Carrier.TheVariants.{Table}
 use Rattle.chain.specs.declared.Joints.{Joints}
 use Rattle.chain.specs.declared.Kinematics.{Kinematics}
-use Rattle.chain.specs.declared.Travel.TheVariants.{Unlimited}
 use Rattle.chain.specs.Check.{travel_good, has_direction, known_letter, other_letter, rotary_check, one_or_two, second_check, chain_check, within, all_within, rotary_within, chain_within, joints_within}
 use Rattle.chain.specs.ChainBytes.{no_rotary}
 use Rattle.chain.specs.Forward.{turns_of, tables_forth, head_point, head_vector, table_point, table_vector, reach_axis, reach, forward_core, position}
@@ -30,7 +30,6 @@ use Rattle.chain.specs.Prepared.{unit_axis, spin_of, second_spin, prepared}
 use Rattle.inverse.specs.Subproblem.{square_part, turned_by, between_parts, sp1}
 use Rattle.inverse.specs.Orientation.{one_joint_angles, orientation_angles}
 use Rattle.inverse.specs.Inverse.{pose_at, misses, joints_at}
-use Rattle.path.specs.declared.Start.TheVariants.{AtZero}
 use Rattle.path.specs.Unwinding.{by_turns, unwind_angle, unwind_angles, first_inside, second_inside, inside}
 use Rattle.path.specs.Singular.{singular_frame}
 use Rattle.path.specs.Locking.{within_limits}
@@ -61,7 +60,7 @@ far = vector (of_bits binary64 0x40f8_6a00_0000_0000) (of_bits binary64 0x40f8_6
 
 -- the letter C is the byte 67
 abbrev pub chain : Kinematics
-chain = record { count = 1; first = record { letter = 67; carrier = Table; limits = Unlimited; axis = along_z; pivot = far; rest = nought }; second = no_rotary; spindle_axis = along_z }
+chain = record { count = 1; first = record { letter = 67; carrier = Table; limits = None; axis = along_z; pivot = far; rest = nought }; second = no_rotary; spindle_axis = along_z }
 
 -- 1.8e-12 mm
 abbrev apart : Float
@@ -75,7 +74,7 @@ abbrev at : Float → Joints
 at x = record { xyz = vector x x x; a0 = nought; a1 = nought }
 
 -- ---- it is solved, from angles zero with a cone of 1 degree: the table stays where it is
-pub solved : solve_path chain poses AtZero one 10 ≡ Along (at nought ∷ at apart ∷ [])
+pub solved : solve_path chain poses None one 10 ≡ Along (at nought ∷ at apart ∷ [])
 unfolding solve_path solve_checked solve_check whole_records cone_good path_chain parallel path_sizes poses_in rows solve_poses pose_answer solved_pose solved_tip solve_one set_up bounds_of turned_within singular_frame chain_check second_check rotary_check one_or_two known_letter other_letter travel_good has_direction within all_within rotary_within chain_within no_rotary prepared second_spin spin_of unit_axis unit_or unit_direction all_finite tiny with_length exact_pose of_raw of_positions second_candidate reached_by alone unwound within_limits inside first_inside second_inside unwind_angles unwind_angle by_turns round_half_away orientation_angles one_joint_angles sp1 between_parts turned_by square_part misses pose_at joints_at position forward_core reach reach_axis table_point table_vector head_point head_vector turns_of tables_forth turn_of rotate_vector rotate_point degree_pair turnable sine_degrees cosine_degrees norm dot cross scale add sub root size_of Ieee.add Ieee.sub Ieee.mul Ieee.div Ieee.neg Ieee.lt Ieee.le Ieee.eq Ieee.sum Ieee.round of_bits
 solved = refl
 

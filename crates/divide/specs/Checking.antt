@@ -7,8 +7,8 @@ use Rattle.std.specs.Float.Ieee.Scale.{finite}
 use Rattle.lists.specs.Rows.{rows}
 use Rattle.lists.specs.Search.{all}
 use Rattle.float.specs.Helpers.{nought}
-use Rattle.refusal.specs.Numbers as Numbers
-use Rattle.chain.specs.declared.Checked.{Checked}
+use Rattle.refusal.specs.declared.Cause.{Cause}
+use Rattle.chain.specs.Checked.{Checked}
 use Rattle.chain.specs.declared.Joints.{Joints}
 use Rattle.chain.specs.declared.Kinematics.{Kinematics}
 use Rattle.chain.specs.declared.ToolPose.{ToolPose}
@@ -46,13 +46,13 @@ four_whole poses joints roomPoses roomJoints = whole_records poses joints && who
 unfoldable pub checks_in_order : Kinematics → (whole chord axis asMany finite sizes : Bool) → Checked
 checks_in_order k whole chord axis asMany finite sizes =
     first_refusal
-    (demand whole Numbers.lengths_differ 0
-    ∷ demand chord Numbers.tolerance 0
-    ∷ demand axis Numbers.tolerance 0
-    ∷ demand asMany Numbers.lengths_differ 0
+    (demand whole Cause.LengthsDiffer 0
+    ∷ demand chord Cause.Tolerance 0
+    ∷ demand axis Cause.Tolerance 0
+    ∷ demand asMany Cause.LengthsDiffer 0
     ∷ path_chain k
-    ∷ demand finite Numbers.not_finite 0
-    ∷ demand sizes Numbers.too_large 0
+    ∷ demand finite Cause.NotFinite 0
+    ∷ demand sizes Cause.TooLarge 0
     ∷ [])
 
 unfoldable pub division_check : Kinematics → Tolerances → (poses joints : List Float) → (roomPoses roomJoints : ℕ) → Checked

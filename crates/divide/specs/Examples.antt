@@ -1,12 +1,11 @@
 -- Document 01's worked examples of the definitions, in one table: each row is a test that is computed from the definition that it shows. Answers are compared bit for bit.
-use Rattle.std.specs.Prelude.{ℕ, Bool, true, false, not, ◌&&◌, List, [], ◌∷◌, eqb, pos, Float}
+use Rattle.std.specs.Prelude.{ℕ, Bool, true, false, not, ◌&&◌, List, [], ◌∷◌, eqb, pos, Float, None}
 use Rattle.std.specs.Float.Ieee as Ieee
 use Rattle.std.specs.Float.{binary64}
 use Rattle.std.specs.Float.Ieee.{of_bits, of_int, to_bits}
 use Rattle.float.specs.Helpers.{nought}
 use Rattle.geometry.specs.Vector.{vector}
 use Rattle.chain.specs.declared.Joints.{Joints}
-use Rattle.chain.specs.declared.Travel.TheVariants.{Unlimited}
 use Rattle.inverse.specs.Wraps.{angle_candidates}
 use Rattle.path.specs.Solving.{cone_good, joint_numbers}
 use Rattle.path.specs.Unwinding.{unwind_angle, different_branch}
@@ -49,10 +48,10 @@ table =
     ∷ is (unwind_angle (the 0) (minus 180)) (minus 360)
     ∷ is (unwind_angle (the 0) (the 179)) (the 0)
     -- wraps without limits of -180, 180 and 540 are 180 alone, of 1000 none
-    ∷ are (angle_candidates (minus 180) Unlimited) (the 180 ∷ [])
-    ∷ are (angle_candidates (the 180) Unlimited) (the 180 ∷ [])
-    ∷ are (angle_candidates (the 540) Unlimited) (the 180 ∷ [])
-    ∷ are (angle_candidates (the 1000) Unlimited) []
+    ∷ are (angle_candidates (minus 180) None) (the 180 ∷ [])
+    ∷ are (angle_candidates (the 180) None) (the 180 ∷ [])
+    ∷ are (angle_candidates (the 540) None) (the 180 ∷ [])
+    ∷ are (angle_candidates (the 1000) None) []
     -- cone 10 passes, 10.000000000000002 and 0 do not
     ∷ cone_good (the 10)
     ∷ not (cone_good above10)

@@ -1,6 +1,6 @@
 -- What the price list says of looser tolerances, and of a path that is divided again: R-12's two sentences, as promises
 -- of both calls that divide. "Looser is never dearer" is `Later.looser`, and "comes back the same" is `Later.again`.
-use Rattle.std.specs.Prelude.{ℕ, ◌+◌, ◌*◌, ◌≤◌, ◌≡◌, true, Float, length, take}
+use Rattle.std.specs.Prelude.{ℕ, ◌+◌, ◌*◌, ◌≤◌, ◌≡◌, true, Float, length, take, Ok}
 use mathlib.Core.List.{List, Sublistᴰ}
 use Rattle.std.specs.Float.Ieee as Ieee
 use Rattle.std.specs.Float.Ieee.Scale.{finite}
@@ -10,15 +10,12 @@ use Rattle.chain.specs.Prepared.{prepared}
 use Rattle.path.specs.Solving.{poses_in, whole_records}
 use Rattle.halving.specs.Halving.{Done}
 use Rattle.halving.specs.Inserting.{Inserts}
-use Rattle.machine.specs.declared.Divided.TheVariants as Divided
 use Rattle.middle.specs.declared.Item.{Item}
 use Rattle.middle.specs.declared.Tolerances.{Tolerances}
 use Rattle.middle.specs.Testing.{midpoint, divides}
 use Rattle.turn.specs.Items.{items_in, space_in}
-use Rattle.divide.specs.declared.Division.{Division}
-use Rattle.divide.specs.declared.Division.TheVariants.{Ended}
 use Rattle.divide.specs.Checking.{tip_within}
-use Rattle.divide.specs.Subdividing.{Halved, given, subdivide_path}
+use Rattle.divide.specs.Subdividing.{Halved, given, subdivide_path, Division}
 
 -- "both tolerances finite and equal or larger"
 pub record NotBelow (tol wider : Tolerances) : Type 0 where
@@ -51,11 +48,11 @@ path_length lent solved n = length (given lent solved) + n
 pub record Later (k : Kinematics) (tol : Tolerances) (lent solved : List Float) (roomPoses roomJoints : ℕ) (answer : Division) (poses joints : List Float) : Type 0 where
   -- "For one chain, one path and one space: if a division is accepted, it is accepted with both tolerances finite and
   -- equal or larger, and every pose inserted then was inserted before, in the same order."
-  pub looser : (n : ℕ) → answer ≡ Ended (Divided.Done n) → (wider : Tolerances) → NotBelow tol wider
+  pub looser : (n : ℕ) → answer ≡ Ok n → (wider : Tolerances) → NotBelow tol wider
       → NeverDearer k tol wider lent solved roomPoses roomJoints n (items_in (path_length lent solved n) poses joints)
   -- "A divided path of at most 100,000 poses, with tips within 100,000 mm, comes back the same with count 0 when it is
   -- divided again under its own tolerances and with space for itself."
-  pub again : (n : ℕ) → answer ≡ Ended (Divided.Done n) → path_length lent solved n ≤ 100000
+  pub again : (n : ℕ) → answer ≡ Ok n → path_length lent solved n ≤ 100000
       → all tip_within (poses_in (take (path_length lent solved n * 6) poses)) ≡ true
       → (spacePoses spaceJoints : ℕ) → whole_records spacePoses spaceJoints ≡ true → path_length lent solved n ≤ space_in spacePoses spaceJoints
       → subdivide_path k tol (take (path_length lent solved n * 6) poses) (take (path_length lent solved n * 5) joints) spacePoses spaceJoints

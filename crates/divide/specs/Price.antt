@@ -1,6 +1,6 @@
 -- What the price list states of a division: demand 3, sentence by sentence. It speaks of the answer of a call and of the numbers in the two lent outputs afterwards; `g` are the given poses with the joints that they were solved to. The tolerance
 -- test is `segment_within` alone, never the rule that divides. What the halving needs is said of its steps without a cap.
-use Rattle.std.specs.Prelude.{ℕ, suc, ◌+◌, ◌-◌, ◌*◌, ◌≤◌, ◌<◌, ◌≡◌, ◌⊎◌, ◌↔◌, true, false, length, drop, replicate, Float}
+use Rattle.std.specs.Prelude.{ℕ, suc, ◌+◌, ◌-◌, ◌*◌, ◌≤◌, ◌<◌, ◌≡◌, ◌⊎◌, ◌↔◌, true, false, length, drop, replicate, Float, Err, Ok, Option}
 use Rattle.std.proofs.Math.Option.{none}
 use mathlib.Core.List.{List, ◌∷◌, ◌++◌, Sublistᴰ, Memᴰ}
 use Rattle.std.specs.Float.Ieee as Ieee
@@ -8,26 +8,23 @@ use Rattle.float.specs.Helpers.{nought, size_of}
 use Rattle.lists.specs.Rows.{flat}
 use Rattle.refusal.specs.declared.Refusal.{Refusal}
 use Rattle.geometry.specs.Vector.{minus}
-use Rattle.chain.specs.declared.Checked.TheVariants as Checked
 use Rattle.chain.specs.declared.Joints.{Joints}
 use Rattle.chain.specs.declared.Kinematics.{Kinematics}
 use Rattle.chain.specs.declared.Prepared.{Prepared}
 use Rattle.chain.specs.Check.{joints_within}
 use Rattle.chain.specs.Prepared.{prepared}
-use Rattle.path.specs.declared.Start.{Start}
 use Rattle.path.specs.Unwinding.{inside}
 use Rattle.path.specs.Posing.{bounds_of}
 use Rattle.path.specs.Solving.{Along, AtPose, Kept, joint_numbers, solve_path}
 use Rattle.halving.specs.Halving.{step, Steps, Needs}
-use Rattle.machine.specs.declared.Divided.TheVariants.{Done, TooMany, NoSpace}
-use Rattle.divide.specs.declared.Division.{Division}
-use Rattle.divide.specs.declared.Division.TheVariants.{Refused, Ended}
 use Rattle.middle.specs.declared.Item.{Item}
 use Rattle.middle.specs.declared.Tolerances.{Tolerances}
+use Rattle.turn.specs.declared.Stop.{Stop}
 use Rattle.turn.specs.Items.{items_in, space_in}
 use Rattle.middle.specs.Testing.{least, midpoint, segment_within, divides}
+use Rattle.divide.specs.declared.DivisionError.{DivisionError}
 use Rattle.divide.specs.Checking.{division_check}
-use Rattle.divide.specs.Subdividing.{given, solved_path}
+use Rattle.divide.specs.Subdividing.{given, solved_path, Division}
 use Rattle.divide.specs.Looser.{Later}
 
 -- ---- at most 1e-12 apart: one number, and all five
@@ -87,53 +84,54 @@ ZeroBehind n poses joints = (drop (n * 6) poses ≡ replicate (length poses - n 
 
 -- "Where the checks before the first test pass": but for that of the space, which is said where it is meant
 abbrev pub Checks : Division → Type 0
-Checks (Refused r) = ⊥
-Checks (Division.AtPose r) = ⊥
-Checks (Ended d) = Unit {0}
+Checks (Err (DivisionError.Refused r)) = ⊥
+Checks (Err (DivisionError.AtPose r)) = ⊥
+Checks (Ok n) = Unit {0}
+Checks (Err (DivisionError.Stopped s)) = Unit {0}
 
 -- ---- the answer of a division of g into a space for so many poses, and the two lent outputs afterwards
 pub record Price (k : Kinematics) (tol : Tolerances) (space : ℕ) (g : List Item) (answer : Division) (poses joints : List Float) : Type 0 where
   -- "if nothing is refused", the front of the outputs holds the result,
-  pub divided : (n : ℕ) → answer ≡ Ended (Done n) → Result k (prepared k) tol g n (items_in (length g + n) poses joints)
+  pub divided : (n : ℕ) → answer ≡ Ok n → Result k (prepared k) tol g n (items_in (length g + n) poses joints)
   -- and the rest +0.0
-  pub unused : (n : ℕ) → answer ≡ Ended (Done n) → ZeroBehind (length g + n) poses joints
+  pub unused : (n : ℕ) → answer ≡ Ok n → ZeroBehind (length g + n) poses joints
   -- "with space for 10,000 more poses, refusal for the count comes exactly when this halving needs a 10,001st"
-  pub many : Checks answer → length g + 10000 ≤ space → ((c : ℕ) × (answer ≡ Ended (TooMany c))) ↔ Needs (divides (prepared k) tol) (midpoint (prepared k)) 10001 g
+  pub many : Checks answer → length g + 10000 ≤ space → ((c : ℕ) × (answer ≡ Err (DivisionError.Stopped (Stop.TooMany c)))) ↔ Needs (divides (prepared k) tol) (midpoint (prepared k)) 10001 g
   -- and none for space
-  pub never_full : length g + 10000 ≤ space → (c : ℕ) → answer ≡ Ended (NoSpace c) → ⊥
+  pub never_full : length g + 10000 ≤ space → (c : ℕ) → answer ≡ Err (DivisionError.Stopped (Stop.NoSpace c)) → ⊥
   -- "with less, refusal for space exactly when it needs more than there is"
   pub full : Checks answer → length g ≤ space → space < length g + 10000
-      → ((c : ℕ) × (answer ≡ Ended (NoSpace c))) ↔ Needs (divides (prepared k) tol) (midpoint (prepared k)) (suc (space - length g)) g
+      → ((c : ℕ) × (answer ≡ Err (DivisionError.Stopped (Stop.NoSpace c)))) ↔ Needs (divides (prepared k) tol) (midpoint (prepared k)) (suc (space - length g)) g
   -- and none for the count
-  pub never_many : space < length g + 10000 → (c : ℕ) → answer ≡ Ended (TooMany c) → ⊥
+  pub never_many : space < length g + 10000 → (c : ℕ) → answer ≡ Err (DivisionError.Stopped (Stop.TooMany c)) → ⊥
   -- space for fewer poses than given is refused before the first test
-  pub fewer : Checks answer → space < length g → answer ≡ Ended (NoSpace 0)
+  pub fewer : Checks answer → space < length g → answer ≡ Err (DivisionError.Stopped (Stop.NoSpace 0))
   -- the count so far, of each refusal
-  pub many_count : (c : ℕ) → answer ≡ Ended (TooMany c) → c ≡ 10000
-  pub full_count : length g ≤ space → (c : ℕ) → answer ≡ Ended (NoSpace c) → c ≡ space - length g
+  pub many_count : (c : ℕ) → answer ≡ Err (DivisionError.Stopped (Stop.TooMany c)) → c ≡ 10000
+  pub full_count : length g ≤ space → (c : ℕ) → answer ≡ Err (DivisionError.Stopped (Stop.NoSpace c)) → c ≡ space - length g
   -- which leaves +0.0
-  pub many_zero : (c : ℕ) → answer ≡ Ended (TooMany c) → AllZero poses joints
-  pub full_zero : (c : ℕ) → answer ≡ Ended (NoSpace c) → AllZero poses joints
+  pub many_zero : (c : ℕ) → answer ≡ Err (DivisionError.Stopped (Stop.TooMany c)) → AllZero poses joints
+  pub full_zero : (c : ℕ) → answer ≡ Err (DivisionError.Stopped (Stop.NoSpace c)) → AllZero poses joints
 
 -- ---- of joints that `solve_path` gives for this chain and these poses, whatever the start, the cone and the space that it had
 pub record IfSolved (k : Kinematics) (tol : Tolerances) (lent solved : List Float) (roomPoses roomJoints : ℕ) (answer : Division) (poses joints : List Float) : Type 0 where
   -- where the checks before the first test pass, nothing but 27 and 28 is refused
-  pub begun : division_check k tol lent solved roomPoses roomJoints ≡ Checked.Passed → Checks answer
-  pub price : (start : Start) (cone : Float) (room : ℕ) (l : List Joints) → solve_path k lent start cone room ≡ Along l → solved ≡ flat joint_numbers l
+  pub begun : division_check k tol lent solved roomPoses roomJoints ≡ Ok tt → Checks answer
+  pub price : (start : Option Joints) (cone : Float) (room : ℕ) (l : List Joints) → solve_path k lent start cone room ≡ Along l → solved ≡ flat joint_numbers l
       → Price k tol (space_in roomPoses roomJoints) (given lent solved) answer poses joints
 
 -- ---- of the call of both: `lent` are the given poses, `poses₀` and `joints₀` the two outputs before
-pub record SolvedAndDivided (k : Kinematics) (lent : List Float) (start : Start) (cone : Float) (tol : Tolerances) (answer : Division) (poses₀ joints₀ poses joints : List Float) : Type 0 where
+pub record SolvedAndDivided (k : Kinematics) (lent : List Float) (start : Option Joints) (cone : Float) (tol : Tolerances) (answer : Division) (poses₀ joints₀ poses joints : List Float) : Type 0 where
   -- what keeps all in `solve_path` keeps all here
-  pub kept : (r : Refusal) → solved_path k lent start cone (length poses₀) (length joints₀) ≡ Kept r → (answer ≡ Refused r) × ((poses ≡ poses₀) × (joints ≡ joints₀))
+  pub kept : (r : Refusal) → solved_path k lent start cone (length poses₀) (length joints₀) ≡ Kept r → (answer ≡ Err (DivisionError.Refused r)) × ((poses ≡ poses₀) × (joints ≡ joints₀))
   -- a refusal at a pose leaves +0.0
-  pub at_pose : (r : Refusal) → solved_path k lent start cone (length poses₀) (length joints₀) ≡ AtPose r → (answer ≡ Division.AtPose r) × AllZero poses joints
+  pub at_pose : (r : Refusal) → solved_path k lent start cone (length poses₀) (length joints₀) ≡ AtPose r → (answer ≡ Err (DivisionError.AtPose r)) × AllZero poses joints
   -- and so does division's
   pub refused : (l : List Joints) (r : Refusal) → solved_path k lent start cone (length poses₀) (length joints₀) ≡ Along l
-      → division_check k tol lent (flat joint_numbers l) (length poses₀) (length joints₀) ≡ Checked.Refused r → (answer ≡ Refused r) × AllZero poses joints
+      → division_check k tol lent (flat joint_numbers l) (length poses₀) (length joints₀) ≡ Err r → (answer ≡ Err (DivisionError.Refused r)) × AllZero poses joints
   -- the checks before the first test pass
   pub begun : (l : List Joints) → solved_path k lent start cone (length poses₀) (length joints₀) ≡ Along l
-      → division_check k tol lent (flat joint_numbers l) (length poses₀) (length joints₀) ≡ Checked.Passed → Checks answer
+      → division_check k tol lent (flat joint_numbers l) (length poses₀) (length joints₀) ≡ Ok tt → Checks answer
   -- "For every path solved and then divided for one chain, whatever the start, cone, tolerances and space"
   pub price : (l : List Joints) → solved_path k lent start cone (length poses₀) (length joints₀) ≡ Along l
       → Price k tol (space_in (length poses₀) (length joints₀)) (given lent (flat joint_numbers l)) answer poses joints

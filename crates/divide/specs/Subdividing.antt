@@ -1,25 +1,25 @@
 -- The two calls that divide, over lent numbers: `subdivide_path` of given poses and joints, and the call of both, which solves the joints first.
-use Rattle.std.specs.Prelude.{ℕ, ◌/◌, ◌*◌, Bool, true, cond, ◌&&◌, List, [], ◌∷◌, eqb, leb, ltb, length, take, replicate, Float}
+use Rattle.std.specs.Prelude.{ℕ, ◌/◌, ◌*◌, Bool, true, cond, ◌&&◌, List, [], ◌∷◌, eqb, leb, ltb, length, take, replicate, Float, Err, Ok, Option, Result}
 use Rattle.float.specs.Helpers.{nought}
 use Rattle.lists.specs.Rows.{flat}
 use Rattle.refusal.specs.declared.Refusal.{Refusal}
-use Rattle.refusal.specs.Numbers.{refusal, lengths_differ}
-use Rattle.chain.specs.declared.Checked.{Checked}
+use Rattle.refusal.specs.Numbers.{refusal}
+use Rattle.refusal.specs.declared.Cause.{Cause}
+use Rattle.chain.specs.Checked.{Checked}
 use Rattle.chain.specs.declared.Joints.{Joints}
 use Rattle.chain.specs.declared.Kinematics.{Kinematics}
 use Rattle.chain.specs.declared.Prepared.{Prepared}
 use Rattle.chain.specs.Check.{demand, first_refusal}
 use Rattle.chain.specs.Prepared.{prepared}
-use Rattle.path.specs.declared.Start.{Start}
 use Rattle.path.specs.Solving.{PathAnswer, Along, joint_numbers, whole_records, solve_check, solve_path}
 use Rattle.path.specs.Solving as Path
 use Rattle.halving.specs.Halving.{Answer, Done, NoSpace}
-use Rattle.divide.specs.declared.Division.{Division}
 use Rattle.middle.specs.declared.Item.{Item}
 use Rattle.middle.specs.declared.Tolerances.{Tolerances}
 use Rattle.turn.specs.Items.{items_in, space_in}
+use Rattle.divide.specs.declared.DivisionError.{DivisionError}
 use Rattle.divide.specs.Checking.{division_check}
-use Rattle.machine.specs.Dividing.{division, divided_in, poses_over, joints_over}
+use Rattle.machine.specs.Dividing.{division, divided_in, poses_over, joints_over, Divided}
 
 -- ---- what a call that divides comes to: a refusal that keeps what is lent, one at a pose or after it that leaves +0.0 in both outputs, or what the halving comes to
 pub data DivisionAnswer : Type 0 where
@@ -28,11 +28,20 @@ pub data DivisionAnswer : Type 0 where
   Cleared : Refusal → DivisionAnswer
   Halved : Answer Item → DivisionAnswer
 
+-- what a call that divides answers: the number inserted, or why there is no path
+abbrev pub Division : Type 0
+Division = Result ℕ DivisionError
+
+-- how a division ended, as what the call answers
+abbrev pub ended : Divided → Division
+ended (Ok n) = Ok n
+ended (Err s) = Err (DivisionError.Stopped s)
+
 abbrev pub division_in : DivisionAnswer → Division
-division_in (Kept r) = Division.Refused r
-division_in (AtPose r) = Division.AtPose r
-division_in (Cleared r) = Division.Refused r
-division_in (Halved answer) = Division.Ended (divided_in answer)
+division_in (Kept r) = Err (DivisionError.Refused r)
+division_in (AtPose r) = Err (DivisionError.AtPose r)
+division_in (Cleared r) = Err (DivisionError.Refused r)
+division_in (Halved answer) = ended (divided_in answer)
 
 -- the two lent outputs afterwards
 unfoldable pub poses_left : DivisionAnswer → List Float → List Float
@@ -64,8 +73,8 @@ unfoldable pub idle_answer : ℕ → ℕ → Answer Item
 idle_answer space count = cond (leb count space) (Done 0 []) (NoSpace 0)
 
 abbrev pub unless_kept : Checked → DivisionAnswer → DivisionAnswer
-unless_kept Checked.Passed answer = answer
-unless_kept (Checked.Refused r) answer = Kept r
+unless_kept (Ok _) answer = answer
+unless_kept (Err r) answer = Kept r
 
 unfoldable pub subdivide_path : Kinematics → Tolerances → (poses joints : List Float) → (roomPoses roomJoints : ℕ) → DivisionAnswer
 subdivide_path k tol poses joints roomPoses roomJoints =
@@ -89,22 +98,22 @@ unfoldable pub three_whole : (poses roomPoses roomJoints : ℕ) → Bool
 three_whole poses roomPoses roomJoints = whole_records poses roomJoints && whole_records roomPoses roomJoints
 
 -- every buffer's records, then the checks of solve_path with as much space as division has
-unfoldable pub both_check : Kinematics → Start → Float → (numbers roomPoses roomJoints : ℕ) → Checked
+unfoldable pub both_check : Kinematics → Option Joints → Float → (numbers roomPoses roomJoints : ℕ) → Checked
 both_check k start cone numbers roomPoses roomJoints =
     first_refusal
-    (demand (three_whole numbers roomPoses roomJoints) lengths_differ 0
+    (demand (three_whole numbers roomPoses roomJoints) Cause.LengthsDiffer 0
     ∷ solve_check k start cone numbers (space_in roomPoses roomJoints * 5)
     ∷ [])
 
 -- the path solved with as much space as division has
-unfoldable pub solved_path : Kinematics → List Float → Start → Float → (roomPoses roomJoints : ℕ) → PathAnswer
+unfoldable pub solved_path : Kinematics → List Float → Option Joints → Float → (roomPoses roomJoints : ℕ) → PathAnswer
 solved_path k poses start cone roomPoses roomJoints =
-    cond (three_whole (length poses) roomPoses roomJoints) (solve_path k poses start cone (space_in roomPoses roomJoints * 5)) (Path.Kept (refusal lengths_differ 0))
+    cond (three_whole (length poses) roomPoses roomJoints) (solve_path k poses start cone (space_in roomPoses roomJoints * 5)) (Path.Kept (refusal Cause.LengthsDiffer 0))
 
 -- division of the joints at the front of a lent output
 unfoldable pub found_in : Kinematics → Tolerances → List Float → (roomPoses : ℕ) → List Float → DivisionAnswer
 found_in k tol poses roomPoses joints = clearing (subdivide_path k tol poses (take (length poses / 6 * 5) joints) roomPoses (length joints))
 
-unfoldable pub solve_and_divide : Kinematics → List Float → Start → Float → Tolerances → (roomPoses roomJoints : ℕ) → DivisionAnswer
+unfoldable pub solve_and_divide : Kinematics → List Float → Option Joints → Float → Tolerances → (roomPoses roomJoints : ℕ) → DivisionAnswer
 solve_and_divide k poses start cone tol roomPoses roomJoints =
     after_solving (solved_path k poses start cone roomPoses roomJoints) (λ l. subdivide_path k tol poses (flat joint_numbers l) roomPoses roomJoints)

@@ -1,44 +1,44 @@
-// The call of both: the joints of every pose, then the division of the poses with them. The joints are solved into the front of their output, and divided there.
+// The call of both: the joints of every pose, then the division of the poses with them. The joints are solved into the
+// front of their output, and divided there.
 ghost use Rattle.std.specs.Prelude.{ℕ, ◌*◌, ◌/◌, ◌≤◌, ◌≡◌, length, take};
 ghost use Rattle.divide.specs.Subdividing as S;
 ghost use Rattle.divide.specs.Looser.{Later};
 ghost use Rattle.divide.specs.Price.{IfSolved, SolvedAndDivided};
 
-use crate::Division;
+use crate::DivisionError;
 use crate::checking::division_check;
 use crate::subdividing::halve_solved;
-use chain::{Checked, Kinematics, demand, then};
+use chain::{Joints, Kinematics, demand};
 use middle::Tolerances;
-use path::Start;
+use refusal::{Cause, Refusal};
 use turn::space_in;
 
+// Of three lengths, as `four_whole` is of four: each has its definition.
 pub fn three_whole(poses: usize, room_poses: usize, room_joints: usize) -> bool
     ensures { result ≡ S.three_whole poses room_poses room_joints }
 {
-    if path::whole_records(poses, room_joints) {
-        return path::whole_records(room_poses, room_joints);
-    }
-    false
+    path::whole_records(poses, room_joints) && path::whole_records(room_poses, room_joints)
 }
 
 // Every buffer's records, then the checks of solve_path with as much space as division has.
+#[tactic(auto, unfolding(crate::specs::Subdividing::both_check))]
 fn both_check(
     k: Kinematics,
-    start: Start,
+    start: Option<Joints>,
     cone: f64,
     numbers: usize,
     room_poses: usize,
     room_joints: usize,
-) -> Checked
+) -> Result<(), Refusal>
     ensures { result ≡ S.both_check k start cone numbers room_poses room_joints }
 {
-    let records = demand(
+    demand(
         three_whole(numbers, room_poses, room_joints),
-        refusal::LENGTHS_DIFFER,
+        Cause::LengthsDiffer,
         0,
-    );
+    )?;
     let room = space_in(room_poses, room_joints) * 5;
-    then(records, path::solve_check(k, start, cone, numbers, room))
+    path::solve_check(k, start, cone, numbers, room)
 }
 
 // The division of what is solved; here its refusals leave +0.0 in both outputs.
@@ -48,7 +48,7 @@ fn divide_found(
     given: &[f64],
     poses: &mut [f64],
     joints: &mut [f64],
-) -> Division
+) -> Result<u64, DivisionError>
     requires { length given.now / 6 * 5 ≤ length joints.old }
     ensures answer { result ≡ S.division_in (S.found_in k tol given.now (length poses.old) joints.old) }
     ensures poses { poses.new ≡ S.poses_left (S.found_in k tol given.now (length poses.old) joints.old) poses.old }
@@ -57,40 +57,35 @@ fn divide_found(
     ensures later { Later k tol given.now (take (length given.now / 6 * 5) joints.old) (length poses.old) (length joints.old) result poses.new joints.new }
 {
     let numbers = given.len() / 6 * 5;
-    let checked = division_check(k, tol, given, joints, numbers, poses.len(), joints.len());
-    if let Checked::Refused(r) = checked {
-        path::clear_from(poses, 0);
-        path::clear_from(joints, 0);
-        return Division::Refused(r);
+    if let Err(r) = division_check(k, tol, given, joints, numbers, poses.len(), joints.len()) {
+        poses.fill(0.0);
+        joints.fill(0.0);
+        return Err(DivisionError::Refused(r));
     }
     let space = space_in(poses.len(), joints.len());
-    let ended = halve_solved(k, tol, space, given, poses, joints);
-    Division::Ended(ended)
+    let inserted = halve_solved(k, tol, space, given, poses, joints)?;
+    Ok(inserted)
 }
 
 // A path solved and divided.
 pub fn solve_and_divide(
     k: Kinematics,
     given: &[f64],
-    start: Start,
+    start: Option<Joints>,
     cone: f64,
     tol: Tolerances,
     poses: &mut [f64],
     joints: &mut [f64],
-) -> Division
+) -> Result<u64, DivisionError>
     ensures answer { result ≡ S.division_in (S.solve_and_divide k given.now start cone tol (length poses.old) (length joints.old)) }
     ensures poses { poses.new ≡ S.poses_left (S.solve_and_divide k given.now start cone tol (length poses.old) (length joints.old)) poses.old }
     ensures joints { joints.new ≡ S.joints_left (S.solve_and_divide k given.now start cone tol (length poses.old) (length joints.old)) joints.old }
     ensures price { SolvedAndDivided k given.now start cone tol result poses.old joints.old poses.new joints.new }
 {
-    let checked = both_check(k, start, cone, given.len(), poses.len(), joints.len());
-    if let Checked::Refused(r) = checked {
-        return Division::Refused(r);
-    }
-    let solved = path::solve_checked(k, given, start, cone, joints);
-    if let Checked::Refused(r) = solved {
-        path::clear_from(poses, 0);
-        return Division::AtPose(r);
+    both_check(k, start, cone, given.len(), poses.len(), joints.len())?;
+    if let Err(r) = path::solve_checked(k, given, start, cone, joints) {
+        poses.fill(0.0);
+        return Err(DivisionError::AtPose(r));
     }
     divide_found(k, tol, given, poses, joints)
 }

@@ -1,79 +1,45 @@
 // The checks of a division before its first test.
-ghost use Rattle.std.specs.Prelude.{◌*◌, ◌≤◌, ◌≡◌, true, T, length, take};
-ghost use Rattle.std.specs.Float.{binary64};
-ghost use Rattle.std.specs.Float.Ieee.{fits};
+ghost use Rattle.std.specs.Prelude.{◌≤◌, ◌≡◌, true, length, take};
 ghost use Rattle.std.specs.Float.Ieee.Scale.{finite};
-ghost use Rattle.chain.specs.Check.{joints_within};
-ghost use Rattle.chain.specs.declared.Checked.TheVariants.{Passed};
-ghost use Rattle.lists.specs.Rows.{rows};
 ghost use Rattle.lists.specs.Search.{all};
+ghost use Rattle.chain.specs.Check.{joints_within};
 ghost use Rattle.path.specs.Solving.{poses_in};
-ghost use Rattle.turn.specs.Items.{joints_from};
 ghost use Rattle.divide.specs.Checking as S;
 
-use chain::{Checked, Kinematics, demand, then};
+use chain::{Kinematics, demand};
 use middle::Tolerances;
-use turn::joints_in;
+use refusal::{Cause, Refusal};
+use turn::every_set;
 
 pub fn tolerance_good(t: f64) -> bool
     ensures { result ≡ S.tolerance_good t }
 {
-    if float::finite(t) {
-        return 0.0 < t;
-    }
-    false
+    float::finite(t) && 0.0 < t
 }
 
-// A number that was handed over is a float of 64 bits, whatever it was read from.
-fn number_finite(x: f64) -> bool
-    ensures finite { result ≡ finite x }
-    ensures fits { T (fits binary64 x) }
-{
-    float::finite(x)
-}
-
-// The first `count` numbers.
+// The first `count` numbers. A number that was handed over is a float of 64 bits, whatever it was read from.
 pub fn numbers_finite(numbers: &[f64], count: usize) -> bool
     requires { count ≤ length numbers.now }
     ensures finite { result ≡ all finite (take count numbers.now) }
     ensures fit { result ≡ true → S.FitUpTo count numbers.now }
 {
-    let mut i = 0;
-    while i < count {
-        if !number_finite(numbers[i]) {
+    for x in &numbers[..count] {
+        if !float::finite(*x) {
             return false;
         }
-        i += 1;
     }
     true
 }
 
+// By a loop of its own: it is the only test over poses.
 pub fn tips_within(poses: &[f64]) -> bool
     ensures { result ≡ all S.tip_within (poses_in poses.now) }
 {
-    let n = poses.len() / 6;
-    let mut i = 0;
-    while i < n {
+    for i in 0..poses.len() / 6 {
         let pose = path::pose_in(poses, i * 6);
         if !chain::all_within(pose.tip, 100000.0) {
             return false;
         }
-        i += 1;
-    }
-    true
-}
-
-// The first `sets` joint sets.
-fn joint_sets_within(joints: &[f64], sets: usize) -> bool
-    requires { sets * 5 ≤ length joints.now }
-    ensures { result ≡ all joints_within (rows 5 joints_from sets joints.now) }
-{
-    let mut i = 0;
-    while i < sets {
-        if !chain::joints_within(joints_in(joints, i * 5)) {
-            return false;
-        }
-        i += 1;
     }
     true
 }
@@ -84,35 +50,35 @@ fn all_finite(poses: &[f64], joints: &[f64], numbers: usize) -> bool
     ensures finite { result ≡ S.all_finite poses.now (take numbers joints.now) }
     ensures fit { result ≡ true → S.FitUpTo numbers joints.now }
 {
-    if numbers_finite(poses, poses.len()) {
-        return numbers_finite(joints, numbers);
-    }
-    false
+    numbers_finite(poses, poses.len()) && numbers_finite(joints, numbers)
 }
 
+// `numbers` as above.
+fn sets_within(joints: &[f64], numbers: usize) -> bool
+    requires { numbers ≤ length joints.now }
+    ensures { result ≡ all joints_within (S.joint_sets_in (take numbers joints.now)) }
+{
+    every_set(joints, numbers / 5, |j| chain::joints_within(j))
+}
+
+#[tactic(auto, unfolding(crate::specs::Checking::division_sizes))]
 fn division_sizes(k: Kinematics, poses: &[f64], joints: &[f64], numbers: usize) -> bool
     requires { numbers ≤ length joints.now }
     ensures { result ≡ S.division_sizes k poses.now (take numbers joints.now) }
 {
-    if chain::chain_within(k) {
-        if tips_within(poses) {
-            if joint_sets_within(joints, numbers / 5) {
-                return poses.len() / 6 <= 100000;
-            }
-        }
-    }
-    false
+    chain::chain_within(k)
+        && tips_within(poses)
+        && sets_within(joints, numbers)
+        && poses.len() / 6 <= 100000
 }
 
 pub fn four_whole(poses: usize, joints: usize, room_poses: usize, room_joints: usize) -> bool
     ensures { result ≡ S.four_whole poses joints room_poses room_joints }
 {
-    if path::whole_records(poses, joints) {
-        return path::whole_records(room_poses, room_joints);
-    }
-    false
+    path::whole_records(poses, joints) && path::whole_records(room_poses, room_joints)
 }
 
+#[tactic(auto, unfolding(crate::specs::Checking::checks_in_order))]
 fn checks_in_order(
     k: Kinematics,
     whole: bool,
@@ -121,18 +87,16 @@ fn checks_in_order(
     as_many: bool,
     finite: bool,
     sizes: bool,
-) -> Checked
+) -> Result<(), Refusal>
     ensures { result ≡ S.checks_in_order k whole chord axis as_many finite sizes }
 {
-    let records = demand(whole, refusal::LENGTHS_DIFFER, 0);
-    let chord_tolerance = demand(chord, refusal::TOLERANCE, 0);
-    let axis_tolerance = demand(axis, refusal::TOLERANCE, 0);
-    let lengths = demand(as_many, refusal::LENGTHS_DIFFER, 0);
-    let chain = path::path_chain(k);
-    let numbers = demand(finite, refusal::NOT_FINITE, 0);
-    let within = demand(sizes, refusal::TOO_LARGE, 0);
-    let given = then(lengths, then(chain, then(numbers, within)));
-    then(records, then(chord_tolerance, then(axis_tolerance, given)))
+    demand(whole, Cause::LengthsDiffer, 0)?;
+    demand(chord, Cause::Tolerance, 0)?;
+    demand(axis, Cause::Tolerance, 0)?;
+    demand(as_many, Cause::LengthsDiffer, 0)?;
+    path::path_chain(k)?;
+    demand(finite, Cause::NotFinite, 0)?;
+    demand(sizes, Cause::TooLarge, 0)
 }
 
 // Of the poses and the first `numbers` joint numbers.
@@ -144,10 +108,10 @@ pub fn division_check(
     numbers: usize,
     room_poses: usize,
     room_joints: usize,
-) -> Checked
+) -> Result<(), Refusal>
     requires { numbers ≤ length joints.now }
     ensures checked { result ≡ S.division_check k tol poses.now (take numbers joints.now) room_poses room_joints }
-    ensures fit { result ≡ Passed → S.FitUpTo numbers joints.now }
+    ensures fit { result ≡ Ok tt → S.FitUpTo numbers joints.now }
 {
     let whole = four_whole(poses.len(), numbers, room_poses, room_joints);
     let chord = tolerance_good(tol.chord);

@@ -1,7 +1,4 @@
-// The edge values, by their bits, and the double that a pattern stands for. `oracle/src/floats.rs` has the same two tables.
-ghost use Rattle.std.specs.Prelude.{◌≡◌};
-ghost use Rattle.std.specs.Float.{binary64};
-ghost use Rattle.std.specs.Float.Ieee.{of_bits};
+// The edge values, by their bits. `oracle/src/floats.rs` has the same two tables.
 
 // Given to each function of one argument.
 pub const EDGES: [u64; 78] = [
@@ -127,13 +124,3 @@ pub const PAIRED: [u64; 21] = [
     0xFFF0_0000_0000_0000,
     0x7FF8_0000_0000_0000,
 ];
-
-// Whatever the sign and the digits of a nan's pattern, the nan.
-pub fn double(bits: u64) -> f64
-    ensures { result ≡ of_bits binary64 bits }
-{
-    if 0x7FF0_0000_0000_0000 < bits % 0x8000_0000_0000_0000 {
-        return 0.0 / 0.0;
-    }
-    f64::from_bits(bits)
-}

@@ -10,11 +10,12 @@ use lib.Dec.{eqb}
 use lib.ListN.{length, take, drop, get_or, set, length-set}
 use lib.Seq.{sets, length-sets, take_all, drop-set-lt, drop-set-add, take-set-le, ext_get_or, get_or-set_same, get_or-set_other}
 use lib.Ieee.{Float}
+use Rattle.std.specs.Prelude.{Err, Ok}
 use Rattle.lists.specs.Fold.{fold}
 use Rattle.lists.specs.Rows.{rows, flat, Codec}
 use Rattle.lists.proofs.Rows.{set_rows, rows_flat, flat_rows, length_flat}
 use Rattle.float.proofs.Units.{le_or_lt}
-use Rattle.chain.specs.declared.Checked.{Checked}
+use Rattle.chain.specs.Checked.{Checked}
 use Rattle.chain.specs.declared.Joints.{Joints}
 use Rattle.path.specs.Solving.{joints_over}
 use Rattle.path.proofs.Walking.{joints_sets}
@@ -120,16 +121,16 @@ stays_own joints summary index fresh e = go (replace_check (length joints) (leng
   where
     go : (t : Checked) → replace_check (length joints) (length summary) index fresh ≡ t
         → unless_refused t (summary_after joints summary index fresh) summary ≡ summary_of (sets_in (unless_refused t (joints_after joints index fresh) joints))
-    go Checked.Passed p =
+    go (Ok _) p =
         let h = (replace_lengths (length joints) (length summary) index fresh p).0 in
         rw e (after_own joints index fresh h)
-    go (Checked.Refused r) p = e
+    go (Err r) p = e
 
 -- the same of what the code leaves, step by step
-module _ (joints summary : List Float) (index : ℕ) (fresh : List Float) (e : replace_check (length joints) (length summary) index fresh ≡ Checked.Passed) where
-  pub joints_left_lem : {j : Joints} {left : List Float} → j ≡ joints_in fresh 0 → left ≡ joints_over j joints (index * 5) → left ≡ joints_replaced joints summary index fresh
+module _ (joints summary : List Float) (index : ℕ) (fresh : List Float) (e : replace_check (length joints) (length summary) index fresh ≡ Ok tt) where
+  pub joints_left : {j : Joints} {left : List Float} → j ≡ joints_in fresh 0 → left ≡ joints_over j joints (index * 5) → left ≡ joints_replaced joints summary index fresh
   unfolding joints_replaced joints_after joints_in
-  joints_left_lem p q = rw e (q ∙ ap (λ (j : Joints). joints_over j joints (index * 5)) p)
+  joints_left p q = rw e (q ∙ ap (λ (j : Joints). joints_over j joints (index * 5)) p)
 
   pub summary_left : {left sums : List Float} → left ≡ joints_replaced joints summary index fresh → sums ≡ resummed summary (sets_in left) (index / 64)
       → sums ≡ summary_replaced joints summary index fresh
@@ -145,8 +146,8 @@ unfolding summary_built
 built_own joints summary e = go (build_check joints (length summary))
   where
     go : (t : Checked) → unless_refused t (summary_of (sets_in joints)) summary ≡ summary_of (sets_in joints)
-    go Checked.Passed = refl
-    go (Checked.Refused r) = e
+    go (Ok _) = refl
+    go (Err r) = e
 
 call_own : (b : Beside) (c : Call) → b.summary ≡ summary_of (sets_in b.joints) → (after b c).summary ≡ summary_of (sets_in (after b c).joints)
 unfolding after
@@ -164,12 +165,12 @@ pub afresh : (joints : List Float) (row : List Call) → (fold after (own joints
 afresh joints row = row_own (own joints) row refl
 
 -- and so from the first building on, whatever stood in the summary before
-pub built_afresh : (joints summary : List Float) (row : List Call) → build_check joints (length summary) ≡ Checked.Passed
+pub built_afresh : (joints summary : List Float) (row : List Call) → build_check joints (length summary) ≡ Ok tt
     → (fold after (record { joints = joints; summary = summary }) (Build ∷ row)).summary
     ≡ summary_of (sets_in (fold after (record { joints = joints; summary = summary }) (Build ∷ row)).joints)
 unfolding fold after
 built_afresh joints summary row e =
     row_own (record { joints = joints; summary = summary_built joints summary }) row (built joints summary e)
   where
-    built : (joints summary : List Float) → build_check joints (length summary) ≡ Checked.Passed → summary_built joints summary ≡ summary_of (sets_in joints)
+    built : (joints summary : List Float) → build_check joints (length summary) ≡ Ok tt → summary_built joints summary ≡ summary_of (sets_in joints)
     built joints summary e = unfold summary_built in rw e

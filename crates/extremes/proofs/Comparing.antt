@@ -8,7 +8,7 @@ use lib.Ieee.Scale.{finite}
 use Rattle.float.specs.Helpers.{negative}
 use Rattle.float.specs.TotalOrder.{before}
 use Rattle.float.proofs.Order.{eq_le, lt_le, le_left, le_right, lt_le_trans, le_lt_trans, not_le_lt, lt_not_le}
-use Rattle.extremes.specs.Summary.{lower, upper}
+use Rattle.extremes.specs.Summary.{upper}
 
 -- ---- of two numbers
 denied : (b : Bool) → not b ≡ true → b ≡ false
@@ -33,11 +33,11 @@ not_before_le x y h m n = go (le y x) refl
     go false e = absurd (true≢false (sym (rw (n, not_le_lt x y m n e) refl) ∙ h))
 
 -- what is less stands before, and not behind
-less_before : (x y : Float) → lt x y ≡ true → before x y ≡ true
+pub less_before : (x y : Float) → lt x y ≡ true → before x y ≡ true
 unfolding before
 less_before x y h = rw (le_right x y (lt_le x y h), h)
 
-less_not_behind : (x y : Float) → lt x y ≡ true → before y x ≡ false
+pub less_not_behind : (x y : Float) → lt x y ≡ true → before y x ≡ false
 less_not_behind x y h = go (before y x) refl
   where
     go : (t : Bool) → before y x ≡ t → t ≡ false
@@ -92,23 +92,6 @@ before_trans x y z h l = go (is_nan z) refl
     go : (n : Bool) → is_nan z ≡ n → before x z ≡ true
     go true e = last e
     go false e = both e (ways x y h (le_left y z (before_le y z l e))) (ways y z l e)
-
--- ---- the smaller and the larger, where one is less
-pub lower_first : (x y : Float) → lt x y ≡ true → x ≡ lower x y
-unfolding lower
-lower_first x y h = rw (less_not_behind x y h)
-
-pub lower_second : (x y : Float) → lt y x ≡ true → y ≡ lower x y
-unfolding lower
-lower_second x y h = rw (less_before y x h)
-
-pub upper_second : (x y : Float) → lt x y ≡ true → y ≡ upper x y
-unfolding upper
-upper_second x y h = rw (less_before x y h)
-
-pub upper_first : (x y : Float) → lt y x ≡ true → x ≡ upper x y
-unfolding upper
-upper_first x y h = rw (less_not_behind y x h)
 
 -- ---- above the larger of two is above one of them
 or_is : (a x y : Bool) → (x ≡ true → a ≡ true) → (y ≡ true → a ≡ true) → (a ≡ true → (x || y) ≡ true) → a ≡ (x || y)

@@ -2,7 +2,6 @@ pub mod Comparing
 pub mod Groups
 pub mod SmallestLargest
 pub mod Checks
-pub mod Testing
 pub mod Building
 pub mod Afresh
 pub mod Skipping

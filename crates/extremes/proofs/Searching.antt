@@ -1,18 +1,49 @@
 -- The two loops of the question: through the joint sets of a group, and from group to group.
-use Prim.Native.Nat.{ℕ, zero, suc, ◌+◌, ◌-◌, ◌*◌, ◌/◌, ◌%◌, ◌≤◌, ◌<◌}
+use Prim.Native.Nat.{ℕ, zero, suc, min, ◌+◌, ◌-◌, ◌*◌, ◌/◌, ◌%◌, ◌≤◌, ◌<◌}
 use native.Mathlib.Nat.{sub-zero}
 use native.Mathlib.Omega.{arith}
 use mathlib.Core.Path.{◌≡◌, refl, sym, ◌∙◌}
-use mathlib.Core.Bool.{Bool, true, false, cond, ◌&&◌}
+use mathlib.Core.Bool.{Bool, true, false, cond, ◌&&◌, false≢true}
 use mathlib.Core.List.{List}
-use borrow.Author.Tests.{lt-ltb, le-ltb}
+use borrow.Author.Tests.{lt-ltb, le-ltb, ltb-true, ltb-false}
+use Rattle.std.specs.Prelude.{Option, Some, None, is_some}
+use Rattle.std.proofs.lemmas.Bool.Decides.{nat_tests}
 use lib.Dec.{ltb}
 use lib.Ieee.{Float}
 use Rattle.extremes.specs.Summary.{group_count}
 use Rattle.extremes.specs.Asking.{opened, first_index, above_at, hit, first_above}
 use Rattle.extremes.specs.AskingSteps.{group_end, in_group}
+use Rattle.extremes.specs.Entries.{found_among}
 use Rattle.extremes.proofs.Groups.{end_is}
 use Rattle.extremes.proofs.Skipping.{same_index}
+
+-- ---- an index that is one of n
+pub among : {n i : ℕ} → i < n → Some i ≡ found_among n i
+unfolding found_among
+among {n} {i} h = rw (lt-ltb i n h)
+
+pub among_none : {n i : ℕ} → n ≤ i → None ≡ found_among n i
+unfolding found_among
+among_none {n} {i} h = rw (le-ltb i n h)
+
+pub found_below : {n i : ℕ} {o : Option ℕ} → o ≡ found_among n i → is_some o ≡ true → i < n
+unfolding found_among
+found_below {n} {i} e s = go (ltb i n) refl (rw e at s)
+  where
+    go : (b : Bool) → ltb i n ≡ b → is_some (cond b (Some i) None) ≡ true → i < n
+    go true t s = ltb-true i n t
+    go false t s = absurd (false≢true s)
+
+pub found_none : {n i : ℕ} {o : Option ℕ} → o ≡ found_among n i → is_some o ≡ false → n ≤ i
+unfolding found_among
+found_none {n} {i} e s = go (ltb i n) refl (rw e at s)
+  where
+    go : (b : Bool) → ltb i n ≡ b → is_some (cond b (Some i) None) ≡ false → n ≤ i
+    go true t s = absurd (false≢true (sym s))
+    go false t s = ltb-false i n t
+
+pub found_further : {n m i : ℕ} → i < n → n ≤ m → found_among n i ≡ found_among m i
+found_further {n} {m} {i} h l = sym (among h) ∙ among (omega (arith, h, l))
 
 -- ---- the first index
 none_first : (k n : ℕ) (t : ℕ → Bool) → ((i : ℕ) → k ≤ i → i < k + n → t i ≡ false) → first_index t k n ≡ k + n
@@ -123,14 +154,29 @@ pub room_in : (k n : ℕ) → k < n → k / 64 * 10 + 10 ≤ group_count n * 10
 unfolding group_count
 room_in k n h = omega (arith, h)
 
+-- where the next group starts
+pub next_start : (g n : ℕ) → g * 64 < n → min ((g + 1) * 64) n ≡ group_end (g * 64) n
+unfolding group_end
+next_start g n h = grind (arith, nat_tests)
+
+pub groups_before : (g n : ℕ) → g < group_count n → g * 64 < n
+unfolding group_count
+groups_before g n h = omega arith
+
+pub groups_over : (g n : ℕ) → group_count n ≤ g → min (g * 64) n ≡ n
+unfolding group_count
+groups_over g n h = omega arith
+
 -- ---- from group to group
 pub record Groups (rotary : ℕ) (angle : Float) (s joints : List Float) (n k : ℕ) : Type 0 where
   pub going : Going (hit rotary angle s joints) 0 n k
   pub starts : k < n → k % 64 ≡ 0
 
 module _ {rotary : ℕ} {angle : Float} {s joints : List Float} {n : ℕ} where
-  pub groups_start : Groups rotary angle s joints n 0
-  groups_start = record { going = going_start (omega arith); starts = λ h. refl }
+  pub groups_start : Groups rotary angle s joints n (min 0 n)
+  groups_start =
+      let e : min 0 n ≡ 0 = omega arith in
+      rw e (record { going = going_start (omega arith); starts = λ h. refl })
 
   searched : {k end i : ℕ} → k < n → Groups rotary angle s joints n k → end ≡ group_end k n → i ≡ in_group rotary angle s joints k end → i ≡ first_index (hit rotary angle s joints) k (end - k)
   searched {k} {end} {i} h g e f =
@@ -158,6 +204,13 @@ module _ {rotary : ℕ} {angle : Float} {s joints : List Float} {n : ℕ} where
       let y : first_index (hit rotary angle s joints) k (end - k) ≡ end = omega (arith, x, m, b, q, e) in
       record { going = going_run (omega (arith, q, e)) (omega (arith, r, e)) y g.going; starts = rw (← e) at p.1.1.1 }
 
-  pub groups_end : {k : ℕ} → n ≤ k → Groups rotary angle s joints n k → k ≡ first_above rotary angle s joints n
+  pub groups_end : Groups rotary angle s joints n n → n ≡ first_above rotary angle s joints n
   unfolding first_above
-  groups_end h g = rw sub-zero at (going_end h g.going)
+  groups_end g = rw sub-zero at (going_end (omega arith) g.going)
+
+  -- at a group's start
+  pub at_start : {g : ℕ} → g < group_count n → Groups rotary angle s joints n (min (g * 64) n) → Groups rotary angle s joints n (g * 64)
+  at_start {g} h v =
+      let p = groups_before g n h in
+      let e : min (g * 64) n ≡ g * 64 = omega (arith, p) in
+      rw e at v

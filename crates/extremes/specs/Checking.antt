@@ -2,8 +2,8 @@
 use Rattle.std.specs.Prelude.{Bool, ◌&&◌, List, [], ◌∷◌, ℕ, ◌*◌, ◌/◌, ◌%◌, ltb, eqb, length, Float}
 use Rattle.std.specs.Float.Ieee.Scale.{finite}
 use Rattle.lists.specs.Search.{all}
-use Rattle.refusal.specs.Numbers as Numbers
-use Rattle.chain.specs.declared.Checked.{Checked}
+use Rattle.refusal.specs.declared.Cause.{Cause}
+use Rattle.chain.specs.Checked.{Checked}
 use Rattle.chain.specs.Check.{demand, first_refusal, joints_finite, joints_within, within, most_turned}
 use Rattle.turn.specs.Items.{joints_from}
 use Rattle.extremes.specs.Summary.{sets_in, group_count}
@@ -24,25 +24,25 @@ ask_good joints summary rotary = lengths_good joints summary && ltb rotary 2
 unfoldable pub build_check : (joints : List Float) (summary : ℕ) → Checked
 build_check joints summary =
     first_refusal
-    (demand (lengths_good (length joints) summary) Numbers.lengths_differ 0
-    ∷ demand (all joints_finite (sets_in joints)) Numbers.not_finite 0
-    ∷ demand (all joints_within (sets_in joints)) Numbers.too_large 0
+    (demand (lengths_good (length joints) summary) Cause.LengthsDiffer 0
+    ∷ demand (all joints_finite (sets_in joints)) Cause.NotFinite 0
+    ∷ demand (all joints_within (sets_in joints)) Cause.TooLarge 0
     ∷ [])
 
 -- ---- replacing: the new joint set alone
 unfoldable pub replace_check : (joints summary index : ℕ) (fresh : List Float) → Checked
 replace_check joints summary index fresh =
     first_refusal
-    (demand (replace_good joints summary index (length fresh)) Numbers.lengths_differ 0
-    ∷ demand (joints_finite (joints_from fresh)) Numbers.not_finite 0
-    ∷ demand (joints_within (joints_from fresh)) Numbers.too_large 0
+    (demand (replace_good joints summary index (length fresh)) Cause.LengthsDiffer 0
+    ∷ demand (joints_finite (joints_from fresh)) Cause.NotFinite 0
+    ∷ demand (joints_within (joints_from fresh)) Cause.TooLarge 0
     ∷ [])
 
 -- ---- asking: the angle alone
 unfoldable pub ask_check : (joints summary rotary : ℕ) (angle : Float) → Checked
 ask_check joints summary rotary angle =
     first_refusal
-    (demand (ask_good joints summary rotary) Numbers.lengths_differ 0
-    ∷ demand (finite angle) Numbers.not_finite 0
-    ∷ demand (within angle most_turned) Numbers.too_large 0
+    (demand (ask_good joints summary rotary) Cause.LengthsDiffer 0
+    ∷ demand (finite angle) Cause.NotFinite 0
+    ∷ demand (within angle most_turned) Cause.TooLarge 0
     ∷ [])

@@ -1,18 +1,18 @@
 -- What the three calls answer, and what is lent afterwards. A refusal changes nothing.
-use Rattle.std.specs.Prelude.{true, cond, List, ◌≡◌, ℕ, ◌*◌, ◌/◌, ◌<◌, ltb, length, Float}
+use Rattle.std.specs.Prelude.{true, cond, List, ◌≡◌, ℕ, ◌*◌, ◌/◌, ◌<◌, ltb, length, Float, Err, None, Ok, Option, Result, Some}
 use Rattle.lists.specs.Search.{all}
-use Rattle.chain.specs.declared.Checked.{Checked}
+use Rattle.refusal.specs.declared.Refusal.{Refusal}
+use Rattle.chain.specs.Checked.{Checked}
 use Rattle.chain.specs.Check.{joints_finite}
 use Rattle.path.specs.Solving.{joints_over}
 use Rattle.turn.specs.Items.{joints_from, joints_in}
-use Rattle.extremes.specs.declared.Asked.{Asked}
 use Rattle.extremes.specs.Summary.{sets_in, summary_of, resummed}
 use Rattle.extremes.specs.Asking.{opened, first_above, full_reading}
 use Rattle.extremes.specs.Checking.{build_check, replace_check, ask_check}
 
 abbrev pub unless_refused : {A : Type 0} → Checked → A → A → A
-unless_refused Checked.Passed changed kept = changed
-unless_refused (Checked.Refused r) changed kept = kept
+unless_refused (Ok _) changed kept = changed
+unless_refused (Err r) changed kept = kept
 
 -- ---- building: the summary afterwards
 unfoldable pub summary_built : (joints summary : List Float) → List Float
@@ -37,23 +37,27 @@ abbrev pub StaysOwn : (joints summary joints_left summaryLeft : List Float) → 
 StaysOwn joints summary joints_left summaryLeft = summary ≡ summary_of (sets_in joints) → summaryLeft ≡ summary_of (sets_in joints_left)
 
 -- ---- asking
+-- the index of the first joint set above, `None` where none is, or a refusal
+abbrev pub Asked : Type 0
+Asked = Result (Option ℕ) Refusal
+
 abbrev pub unless_asked : Checked → Asked → Asked
-unless_asked Checked.Passed answer = answer
-unless_asked (Checked.Refused r) answer = Asked.Refused r
+unless_asked (Ok _) answer = answer
+unless_asked (Err r) answer = Err r
 
 -- an index among n; n itself where there is none
-unfoldable pub found_among : (n i : ℕ) → Asked
-found_among n i = cond (ltb i n) (Asked.At i) Asked.NoneAbove
+unfoldable pub found_among : (n i : ℕ) → Option ℕ
+found_among n i = cond (ltb i n) (Some i) None
 
 unfoldable pub ask_of : (joints summary : List Float) → ℕ → Float → Asked
 ask_of joints summary rotary angle =
     unless_asked (ask_check (length joints) (length summary) rotary angle)
-    (found_among (length joints / 5) (first_above rotary angle summary joints (length joints / 5)))
+    (Ok (found_among (length joints / 5) (first_above rotary angle summary joints (length joints / 5))))
 
 -- what a full reading answers: of the summary it takes the length alone
 unfoldable pub reading_of : (joints summary : List Float) → ℕ → Float → Asked
 reading_of joints summary rotary angle =
-    unless_asked (ask_check (length joints) (length summary) rotary angle) (found_among (length joints / 5) (full_reading rotary angle joints (length joints / 5)))
+    unless_asked (ask_check (length joints) (length summary) rotary angle) (Ok (found_among (length joints / 5) (full_reading rotary angle joints (length joints / 5))))
 
 -- "must answer as a full reading where the joints are finite and the summary is theirs"
 abbrev pub AsRead : (joints summary : List Float) → ℕ → Float → Asked → Type 0

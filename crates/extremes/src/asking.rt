@@ -3,10 +3,12 @@ ghost use Rattle.std.specs.Prelude.{◌+◌, ◌-◌, ◌*◌, ◌/◌, ◌≤�
 ghost use Rattle.extremes.specs.Summary.{group_count};
 ghost use Rattle.extremes.specs.Asking as S;
 ghost use Rattle.extremes.specs.AskingSteps.{in_group};
+ghost use Rattle.extremes.specs.Entries.{found_among};
 
-use crate::summing::group_end;
+use crate::summing::{group_count, group_end};
 use chain::Joints;
 
+#[tactic(auto, unfolding(crate::specs::Asking::angle_of))]
 fn angle_of(rotary: usize, j: Joints) -> f64
     ensures { result ≡ S.angle_of rotary j }
 {
@@ -26,6 +28,7 @@ fn opened(rotary: usize, angle: f64, summary: &[f64], g: usize) -> bool
     angle < largest
 }
 
+#[tactic(auto, unfolding(crate::specs::Asking::above_at, crate::specs::Asking::above))]
 fn above_at(rotary: usize, angle: f64, joints: &[f64], i: usize) -> bool
     requires { i * 5 + 5 ≤ length joints.now }
     ensures { result ≡ S.above_at rotary angle joints.now i }
@@ -35,22 +38,21 @@ fn above_at(rotary: usize, angle: f64, joints: &[f64], i: usize) -> bool
     angle < x
 }
 
-// The first from an index on, before an end, that is above; the end where none is.
-fn first_in(rotary: usize, angle: f64, joints: &[f64], from: usize, end: usize) -> usize
+// The first from an index on, before an end, that is above.
+fn first_in(rotary: usize, angle: f64, joints: &[f64], from: usize, end: usize) -> Option<usize>
     requires { (from ≤ end) × (end * 5 ≤ length joints.now) }
-    ensures { result ≡ S.first_index (S.above_at rotary angle joints.now) from (end - from) }
+    ensures { result ≡ found_among end (S.first_index (S.above_at rotary angle joints.now) from (end - from)) }
 {
-    let mut i = from;
-    while i < end {
+    for i in from..end {
         if above_at(rotary, angle, joints, i) {
-            return i;
+            return Some(i);
         }
-        i += 1;
     }
-    i
+    None
 }
 
-// The same where the group is opened; else the end.
+// The same where the group is opened.
+#[tactic(auto, unfolding(crate::specs::AskingSteps::in_group))]
 fn in_group(
     rotary: usize,
     angle: f64,
@@ -58,30 +60,35 @@ fn in_group(
     joints: &[f64],
     from: usize,
     end: usize,
-) -> usize
+) -> Option<usize>
     requires { ((from ≤ end) × (end * 5 ≤ length joints.now)) × (from / 64 * 10 + 10 ≤ length summary.now) }
-    ensures { result ≡ in_group rotary angle summary.now joints.now from end }
+    ensures { result ≡ found_among end (in_group rotary angle summary.now joints.now from end) }
 {
     let g = from / 64;
     if opened(rotary, angle, summary, g) {
         return first_in(rotary, angle, joints, from, end);
     }
-    end
+    None
 }
 
-// The index among n joint sets; n where none is above.
-pub fn first_above(rotary: usize, angle: f64, summary: &[f64], joints: &[f64], n: usize) -> usize
+// The index among n joint sets.
+pub fn first_above(
+    rotary: usize,
+    angle: f64,
+    summary: &[f64],
+    joints: &[f64],
+    n: usize,
+) -> Option<usize>
     requires { (n * 5 ≤ length joints.now) × (group_count n * 10 ≤ length summary.now) }
-    ensures { result ≡ S.first_above rotary angle summary.now joints.now n }
+    ensures { result ≡ found_among n (S.first_above rotary angle summary.now joints.now n) }
 {
-    let mut k = 0;
-    while k < n {
-        let end = group_end(k, n);
-        let i = in_group(rotary, angle, summary, joints, k, end);
-        if i < end {
-            return i;
+    for g in 0..group_count(n) {
+        let from = g * 64;
+        let end = group_end(from, n);
+        let found = in_group(rotary, angle, summary, joints, from, end);
+        if found.is_some() {
+            return found;
         }
-        k = end;
     }
-    k
+    None
 }

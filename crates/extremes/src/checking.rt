@@ -6,103 +6,79 @@ ghost use Rattle.extremes.specs.Summary.{sets_in};
 ghost use Rattle.extremes.specs.Checking as S;
 
 use crate::summing::group_count;
-use chain::{Checked, demand, then};
+use chain::demand;
+use refusal::{Cause, Refusal};
 
 // Whole joint sets, and ten numbers for each group.
+#[tactic(auto, unfolding(crate::specs::Checking::lengths_good))]
 fn lengths_good(joints: usize, summary: usize) -> bool
     ensures { result ≡ S.lengths_good joints summary }
 {
-    if joints % 5 == 0 {
-        return summary == group_count(joints / 5) * 10;
-    }
-    false
+    joints % 5 == 0 && summary == group_count(joints / 5) * 10
 }
 
+#[tactic(auto, unfolding(crate::specs::Checking::replace_good))]
 fn replace_good(joints: usize, summary: usize, index: usize, fresh: usize) -> bool
     ensures { result ≡ S.replace_good joints summary index fresh }
 {
-    if lengths_good(joints, summary) {
-        if fresh == 5 {
-            return index < joints / 5;
-        }
-    }
-    false
+    lengths_good(joints, summary) && fresh == 5 && index < joints / 5
 }
 
+#[tactic(auto, unfolding(crate::specs::Checking::ask_good))]
 fn ask_good(joints: usize, summary: usize, rotary: usize) -> bool
     ensures { result ≡ S.ask_good joints summary rotary }
 {
-    if lengths_good(joints, summary) {
-        return rotary < 2;
-    }
-    false
+    lengths_good(joints, summary) && rotary < 2
 }
 
+#[tactic(auto, unfolding(crate::specs::Summary::sets_in))]
 pub fn all_finite(joints: &[f64]) -> bool
     ensures { result ≡ all joints_finite (sets_in joints.now) }
 {
-    let n = joints.len() / 5;
-    let mut i = 0;
-    while i < n {
-        if !chain::joints_finite(turn::joints_in(joints, i * 5)) {
-            return false;
-        }
-        i += 1;
-    }
-    true
+    turn::every_set(joints, joints.len() / 5, |j| chain::joints_finite(j))
 }
 
+#[tactic(auto, unfolding(crate::specs::Summary::sets_in))]
 pub fn all_within(joints: &[f64]) -> bool
     ensures { result ≡ all joints_within (sets_in joints.now) }
 {
-    let n = joints.len() / 5;
-    let mut i = 0;
-    while i < n {
-        if !chain::joints_within(turn::joints_in(joints, i * 5)) {
-            return false;
-        }
-        i += 1;
-    }
-    true
+    turn::every_set(joints, joints.len() / 5, |j| chain::joints_within(j))
 }
 
-pub fn build_check(joints: &[f64], summary: usize) -> Checked
+#[tactic(auto, unfolding(crate::specs::Checking::build_check))]
+pub fn build_check(joints: &[f64], summary: usize) -> Result<(), Refusal>
     ensures { result ≡ S.build_check joints.now summary }
 {
-    let lengths = demand(
-        lengths_good(joints.len(), summary),
-        refusal::LENGTHS_DIFFER,
-        0,
-    );
-    let finite = demand(all_finite(joints), refusal::NOT_FINITE, 0);
-    let sizes = demand(all_within(joints), refusal::TOO_LARGE, 0);
-    then(lengths, then(finite, sizes))
+    demand(lengths_good(joints.len(), summary), Cause::LengthsDiffer, 0)?;
+    demand(all_finite(joints), Cause::NotFinite, 0)?;
+    demand(all_within(joints), Cause::TooLarge, 0)
 }
 
 // The new joint set is read only where it has five numbers.
-pub fn replace_check(joints: usize, summary: usize, index: usize, fresh: &[f64]) -> Checked
+#[tactic(auto, unfolding(crate::specs::Checking::replace_check, turn::specs::Items::joints_in))]
+pub fn replace_check(
+    joints: usize,
+    summary: usize,
+    index: usize,
+    fresh: &[f64],
+) -> Result<(), Refusal>
     ensures { result ≡ S.replace_check joints summary index fresh.now }
 {
-    let good = replace_good(joints, summary, index, fresh.len());
-    let lengths = demand(good, refusal::LENGTHS_DIFFER, 0);
-    if !good {
-        return lengths;
-    }
+    demand(
+        replace_good(joints, summary, index, fresh.len()),
+        Cause::LengthsDiffer,
+        0,
+    )?;
     let j = turn::joints_in(fresh, 0);
-    let finite = demand(chain::joints_finite(j), refusal::NOT_FINITE, 0);
-    let sizes = demand(chain::joints_within(j), refusal::TOO_LARGE, 0);
-    then(lengths, then(finite, sizes))
+    demand(chain::joints_finite(j), Cause::NotFinite, 0)?;
+    demand(chain::joints_within(j), Cause::TooLarge, 0)
 }
 
-pub fn ask_check(joints: usize, summary: usize, rotary: usize, angle: f64) -> Checked
+#[tactic(auto, unfolding(crate::specs::Checking::ask_check))]
+pub fn ask_check(joints: usize, summary: usize, rotary: usize, angle: f64) -> Result<(), Refusal>
     ensures { result ≡ S.ask_check joints summary rotary angle }
 {
-    let lengths = demand(
-        ask_good(joints, summary, rotary),
-        refusal::LENGTHS_DIFFER,
-        0,
-    );
-    let finite = demand(float::finite(angle), refusal::NOT_FINITE, 0);
-    let sizes = demand(chain::within(angle, 36000.0), refusal::TOO_LARGE, 0);
-    then(lengths, then(finite, sizes))
+    demand(ask_good(joints, summary, rotary), Cause::LengthsDiffer, 0)?;
+    demand(float::finite(angle), Cause::NotFinite, 0)?;
+    demand(chain::within(angle, 36000.0), Cause::TooLarge, 0)
 }

@@ -11,19 +11,10 @@ mod summing;
 use chain::Joints;
 pub use checking::{all_finite, all_within};
 pub use entries::{ask, build, replace};
-use refusal::Refusal;
 
 // The smallest and the largest of each number of a group of joint sets.
 #[derive(Clone, Copy)]
 pub struct Extremes {
     pub low: Joints,
     pub high: Joints,
-}
-
-// The index of the first joint set with an angle above the given one.
-#[derive(Clone, Copy)]
-pub enum Asked {
-    At(usize),
-    NoneAbove,
-    Refused(Refusal),
 }

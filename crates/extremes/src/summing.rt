@@ -1,5 +1,6 @@
 // The summary of a path in lent numbers: the extremes of a group of joint sets, of one group and of all.
 ghost use Rattle.std.specs.Prelude.{◌+◌, ◌-◌, ◌*◌, ◌/◌, ◌≤◌, ◌<◌, ◌≡◌, length, take, drop};
+ghost use Rattle.float.specs.TotalOrder.{before};
 ghost use Rattle.extremes.specs.Summary as S;
 ghost use Rattle.extremes.specs.AskingSteps.{group_end};
 
@@ -7,61 +8,49 @@ use crate::Extremes;
 use chain::Joints;
 use geometry::Vec3;
 
-// The smaller by totalOrder. Two numbers of which one is less take no key.
+// Whether x stands before y in totalOrder. Two numbers of which one is less take no key.
+fn earlier(x: f64, y: f64) -> bool
+    ensures { result ≡ before x y }
+{
+    if x < y {
+        return true;
+    }
+    if y < x {
+        return false;
+    }
+    float::precedes(x, y)
+}
+
+#[tactic(auto, unfolding(crate::specs::Summary::lower))]
 fn lower(x: f64, y: f64) -> f64
     ensures { result ≡ S.lower x y }
 {
-    if x < y {
-        return x;
-    }
-    if y < x {
-        return y;
-    }
-    if float::precedes(y, x) {
-        return y;
-    }
-    x
+    if earlier(y, x) { y } else { x }
 }
 
+#[tactic(auto, unfolding(crate::specs::Summary::upper))]
 fn upper(x: f64, y: f64) -> f64
     ensures { result ≡ S.upper x y }
 {
-    if x < y {
-        return y;
-    }
-    if y < x {
-        return x;
-    }
-    if float::precedes(x, y) {
-        return y;
-    }
-    x
+    if earlier(x, y) { y } else { x }
 }
 
-fn lower_set(a: Joints, b: Joints) -> Joints
-    ensures { result ≡ S.lower_set a b }
+// Two joint sets number by number.
+fn each_number<F: Fn(f64, f64) -> f64>(pick: F, a: Joints, b: Joints) -> Joints
+    requires { F.IsAlwaysCallable pick }
+    ensures x { F.post pick a.xyz.x b.xyz.x result.xyz.x }
+    ensures y { F.post pick a.xyz.y b.xyz.y result.xyz.y }
+    ensures z { F.post pick a.xyz.z b.xyz.z result.xyz.z }
+    ensures a0 { F.post pick a.a0 b.a0 result.a0 }
+    ensures a1 { F.post pick a.a1 b.a1 result.a1 }
 {
     let p = a.xyz;
     let q = b.xyz;
-    let x = lower(p.x, q.x);
-    let y = lower(p.y, q.y);
-    let z = lower(p.z, q.z);
-    let a0 = lower(a.a0, b.a0);
-    let a1 = lower(a.a1, b.a1);
-    let xyz = Vec3 { x, y, z };
-    Joints { xyz, a0, a1 }
-}
-
-fn upper_set(a: Joints, b: Joints) -> Joints
-    ensures { result ≡ S.upper_set a b }
-{
-    let p = a.xyz;
-    let q = b.xyz;
-    let x = upper(p.x, q.x);
-    let y = upper(p.y, q.y);
-    let z = upper(p.z, q.z);
-    let a0 = upper(a.a0, b.a0);
-    let a1 = upper(a.a1, b.a1);
+    let x = pick(p.x, q.x);
+    let y = pick(p.y, q.y);
+    let z = pick(p.z, q.z);
+    let a0 = pick(a.a0, b.a0);
+    let a1 = pick(a.a1, b.a1);
     let xyz = Vec3 { x, y, z };
     Joints { xyz, a0, a1 }
 }
@@ -70,8 +59,8 @@ fn upper_set(a: Joints, b: Joints) -> Joints
 fn widened(e: Extremes, j: Joints) -> Extremes
     ensures { result ≡ S.widened e j }
 {
-    let low = lower_set(e.low, j);
-    let high = upper_set(e.high, j);
+    let low = each_number(lower, e.low, j);
+    let high = each_number(upper, e.high, j);
     Extremes { low, high }
 }
 
@@ -85,16 +74,14 @@ fn extremes_at(joints: &[f64], from: usize, end: usize) -> Extremes
         low: first,
         high: first,
     };
-    let mut i = from + 1;
-    while i < end {
-        let j = turn::joints_in(joints, i * 5);
-        e = widened(e, j);
-        i += 1;
+    for i in from + 1..end {
+        e = widened(e, turn::joints_in(joints, i * 5));
     }
     e
 }
 
 // Where the group that begins at an index ends: after 64, or with the last joint set.
+#[tactic(auto, unfolding(crate::specs::AskingSteps::group_end))]
 pub fn group_end(from: usize, n: usize) -> usize
     requires { from ≤ n }
     ensures { result ≡ group_end from n }
@@ -125,6 +112,7 @@ pub fn sum_group(joints: &[f64], summary: &mut [f64], g: usize)
     put_extremes(e, summary, g);
 }
 
+#[tactic(auto, unfolding(crate::specs::Summary::group_count))]
 pub fn group_count(n: usize) -> usize
     requires { n + 63 ≤ 18446744073709551615 }
     ensures { result ≡ S.group_count n }
@@ -137,10 +125,7 @@ pub fn sum_groups(joints: &[f64], summary: &mut [f64])
     requires { length summary.old ≡ S.group_count (length joints.now / 5) * 10 }
     ensures { summary.new ≡ S.summary_of (S.sets_in joints.now) }
 {
-    let count = group_count(joints.len() / 5);
-    let mut g = 0;
-    while g < count {
+    for g in 0..group_count(joints.len() / 5) {
         sum_group(joints, summary, g);
-        g += 1;
     }
 }

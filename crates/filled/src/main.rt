@@ -15,6 +15,7 @@ use machine::Subdiv;
 use middle::Item;
 use std::io;
 use std::io::Write;
+use text::{Float, Hexadecimal};
 
 fn main(rt: HostRuntime) -> io::Result<()> {
     let mut out = rt.stdout();
@@ -89,18 +90,23 @@ fn one_pair<W: Write>(
     left: Item,
     right: Item,
 ) -> io::Result<Subdiv> {
-    let mut poses = [0.0f64; 144];
-    let mut joints = [0.0f64; 120];
-    let after = filled(job, p, left, right, &mut poses, &mut joints);
-    text::write(out, b"inserted")?;
-    text::write_number(out, after.inserted)?;
-    text::write(out, b"\n")?;
-    write_rows(out, &poses, 6)?;
-    write_rows(out, &joints, 5)?;
+    let mut poses = [[0.0f64; 6]; 24];
+    let mut joints = [[0.0f64; 5]; 24];
+    let after = filled(
+        job,
+        p,
+        left,
+        right,
+        poses.as_flattened_mut(),
+        joints.as_flattened_mut(),
+    );
+    writeln!(out, "inserted {}", Hexadecimal(after.inserted))?;
+    write_rows(out, &poses)?;
+    write_rows(out, &joints)?;
     Ok(after)
 }
 
-// The record is lent, and comes back with the new count.
+// The record is lent, and comes back with the new count, on a refusal too: so the answer itself is not looked at.
 fn filled(
     mut job: Subdiv,
     p: Prepared,
@@ -111,22 +117,17 @@ fn filled(
 ) -> Subdiv
     ensures { result ≡ after job (filling job p left right poses.old joints.old) }
 {
-    machine::fill(&mut job, p, left, right, poses, joints);
+    let _ = machine::fill(&mut job, p, left, right, poses, joints);
     job
 }
 
-// So many numbers to a line.
-fn write_rows<W: Write>(out: &mut W, numbers: &[f64], width: usize) -> io::Result<()> {
-    if width == 0 {
-        return Ok(());
-    }
-    let mut i: usize = 0;
-    while i < numbers.len() {
-        text::write_float(out, numbers[i])?;
-        i += 1;
-        if i % width == 0 {
-            text::write(out, b"\n")?;
+// A line for each row.
+fn write_rows<W: Write, const N: usize>(out: &mut W, rows: &[[f64; N]]) -> io::Result<()> {
+    for row in rows {
+        for x in row {
+            write!(out, " {}", Float(*x))?;
         }
+        writeln!(out)?;
     }
     Ok(())
 }

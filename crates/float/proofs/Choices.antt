@@ -1,28 +1,27 @@
 -- The helpers that choose by comparisons (`finite`, `clamp_unit`, `maximum`, `minimum`): each way of the code gives the definition's answer.
-use Rattle.std.proofs.Common.{◌≡◌, ℕ, ◌*◌, ◌<◌, ◌≤◌, Bool, true, false, not, T, ltb, leb, sym, refl, ap, ◌∙◌, subst, true≢false, arith, leb→le, ltb-false, ltb-true}
+use Rattle.std.proofs.Common.{◌≡◌, ℕ, ◌*◌, ◌<◌, ◌≤◌, Bool, true, false, cond, not, T, ltb, leb, sym, refl, ap, ◌∙◌, subst, true≢false, arith, leb→le, ltb-false, ltb-true}
 use mathlib.Core.Bool.{false≢true}
 use lib.Dec.{nleb→lt}
 use lib.Ieee.{Float, nan, inf, fin, binary64, up, down, neg, lt, eq, ne, is_nan, of_bits}
 use lib.Ieee.Compare.{differs_from_itself}
 use lib.Ieee.Scale.{finite}
-use Rattle.float.specs.Helpers.{one, clamp_unit}
+use Rattle.std.specs.Float.{float_is_finite, float_clamp, float_round, round_with}
+use Rattle.float.specs.Helpers.{one, clamp_unit, round_half_away}
 
 -- ---- finite
-abbrev infinity : Float
-infinity = of_bits binary64 0x7ff0_0000_0000_0000
+pub finite_is : (x : Float) → float_is_finite x ≡ finite x
+unfolding float_is_finite finite
+finite_is nan = refl
+finite_is (inf s) = refl
+finite_is (fin s m e) = refl
 
-pub finite_below : (x : Float) → lt x infinity ≡ true → lt (neg infinity) x ≡ finite x
-unfolding lt of_bits neg
-finite_below nan h = refl
-finite_below (inf true) h = refl
-finite_below (inf false) h = absurd (false≢true h)
-finite_below (fin s m e) h = refl
-
-pub finite_else : (x : Float) → lt x infinity ≡ false → false ≡ finite x
-unfolding lt of_bits
-finite_else nan h = refl
-finite_else (inf s) h = refl
-finite_else (fin s m e) h = absurd (true≢false h)
+-- ---- round
+pub round_is : (x : Float) → float_round binary64 x ≡ round_half_away x
+unfolding round_with round_half_away
+round_is nan = refl
+round_is (inf s) = refl
+round_is (fin true m e) = refl
+round_is (fin false m e) = refl
 
 -- ---- a nan is what differs from itself
 pub nan_of : (x : Float) → ne x x ≡ true → is_nan x ≡ true
@@ -85,3 +84,14 @@ clamp_else (inf true) h l = absurd (true≢false h)
 clamp_else (inf false) h l = absurd (true≢false l)
 clamp_else (fin true m e) h l = rw (as_leb (m * up e) (down e) (within (m * up e) (down e) h))
 clamp_else (fin false m e) h l = rw (as_leb (m * up e) (down e) (within (m * up e) (down e) l))
+
+pub clamp_is : (x : Float) → float_clamp x (neg one) one ≡ clamp_unit x
+clamp_is x = below (lt x (neg one)) refl
+  where
+    above : (b : Bool) → lt one x ≡ b → lt x (neg one) ≡ false → cond b one x ≡ clamp_unit x
+    above true e l = clamp_high x e
+    above false e l = clamp_else x l e
+
+    below : (b : Bool) → lt x (neg one) ≡ b → cond b (neg one) (cond (lt one x) one x) ≡ clamp_unit x
+    below true e = clamp_low x e
+    below false e = above (lt one x) refl e

@@ -278,11 +278,11 @@ turned false a true b h = (h.1, h.0)
 turned true a false b h = tt
 turned true a true b h = h
 
-turned_back_lem : (s : Bool) (a : ℕ) (t : Bool) (b : ℕ) → Leq (not t) b (not s) a → Leq s a t b
-turned_back_lem false a false b h = h
-turned_back_lem false a true b h = (h.1, h.0)
-turned_back_lem true a false b h = tt
-turned_back_lem true a true b h = h
+leq_turned_back : (s : Bool) (a : ℕ) (t : Bool) (b : ℕ) → Leq (not t) b (not s) a → Leq s a t b
+leq_turned_back false a false b h = h
+leq_turned_back false a true b h = (h.1, h.0)
+leq_turned_back true a false b h = tt
+leq_turned_back true a true b h = h
 
 pub neg_le : (x y : Float) → le (neg y) (neg x) ≡ le x y
 unfolding le lt eq neg
@@ -301,7 +301,7 @@ neg_le (fin s m e) (inf true) = refl
 neg_le (fin s m e) (inf false) = refl
 neg_le (fin s m e) (fin t n d) =
     iff_eq (leq (not t) (n * up d * down e) (not s) (m * up e * down d)) (leq s (m * up e * down d) t (n * up d * down e))
-    (λ h. from s (m * up e * down d) t (n * up d * down e) (turned_back_lem s (m * up e * down d) t (n * up d * down e) (to (not t) (n * up d * down e) (not s) (m * up e * down d) h)))
+    (λ h. from s (m * up e * down d) t (n * up d * down e) (leq_turned_back s (m * up e * down d) t (n * up d * down e) (to (not t) (n * up d * down e) (not s) (m * up e * down d) h)))
     (λ h. from (not t) (n * up d * down e) (not s) (m * up e * down d) (turned s (m * up e * down d) t (n * up d * down e) (to s (m * up e * down d) t (n * up d * down e) h)))
 
 pub neg_neg : (x : Float) → neg (neg x) ≡ x

@@ -86,8 +86,8 @@ pub record NearUnits (z : Float) (p n e : ℕ) : Type 0 where
   pub low : p + mi s v ≤ pl s v + n + e
   pub high : pl s v + n ≤ p + mi s v + e
 
-in_units_lem : (z : Float) (p n e : ℕ) → Near z p n U e → NearUnits z p n e
-in_units_lem z p n e N = record {
+near_in_units : (z : Float) (p n e : ℕ) → Near z p n U e → NearUnits z p n e
+near_in_units z p n e N = record {
   s = N.s;
   v = N.v;
   is = N.is;
@@ -110,12 +110,12 @@ scaled a b B u P h = go (mul-lt-mul_of_pos_right h P)
 module _ (x y : Float) (s t : Bool) (a b h : ℕ) (i : Is x s a) (j : Is y t b) (most : h ≤ 2040) where
   pub add_near : pl s a + pl t b < mi s a + mi t b + 2 ^ (54 + h) → mi s a + mi t b < pl s a + pl t b + 2 ^ (54 + h) → NearUnits (add binary64 x y) (pl s a + pl t b) (mi s a + mi t b) (2 ^ h)
   add_near l m =
-      in_units_lem (add binary64 x y) (pl s a + pl t b) (mi s a + mi t b) (2 ^ h)
+      near_in_units (add binary64 x y) (pl s a + pl t b) (mi s a + mi t b) (2 ^ h)
       (rnd_near (add binary64 x y) (pl s a + pl t b) (mi s a + mi t b) U h U_pos most (rnd_add x y s t a b i j)
       (scaled (pl s a + pl t b) (mi s a + mi t b) (2 ^ (54 + h)) U U_pos l) (scaled (mi s a + mi t b) (pl s a + pl t b) (2 ^ (54 + h)) U U_pos m))
 
   pub sub_near : pl s a + mi t b < mi s a + pl t b + 2 ^ (54 + h) → mi s a + pl t b < pl s a + mi t b + 2 ^ (54 + h) → NearUnits (sub binary64 x y) (pl s a + mi t b) (mi s a + pl t b) (2 ^ h)
   sub_near l m =
-      in_units_lem (sub binary64 x y) (pl s a + mi t b) (mi s a + pl t b) (2 ^ h)
+      near_in_units (sub binary64 x y) (pl s a + mi t b) (mi s a + pl t b) (2 ^ h)
       (rnd_near (sub binary64 x y) (pl s a + mi t b) (mi s a + pl t b) U h U_pos most (rnd_sub x y s t a b i j)
       (scaled (pl s a + mi t b) (mi s a + pl t b) (2 ^ (54 + h)) U U_pos l) (scaled (mi s a + pl t b) (pl s a + mi t b) (2 ^ (54 + h)) U U_pos m))

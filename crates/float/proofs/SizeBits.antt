@@ -9,14 +9,11 @@ use Rattle.float.proofs.Choices.{nan_of}
 use Rattle.float.proofs.NotNan.{low_bits}
 use Rattle.float.specs.Helpers.{size_of}
 
-nan_itself : (x : Float) → is_nan x ≡ true → x ≡ size_of x
+pub nan_itself : (x : Float) → is_nan x ≡ true → x ≡ size_of x
 unfolding size_of is_nan
 nan_itself nan h = refl
 nan_itself (inf s) h = absurd (false≢true h)
 nan_itself (fin s m e) h = absurd (false≢true h)
-
-pub nan_size : (x : Float) → ne x x ≡ true → x ≡ size_of x
-nan_size x h = nan_itself x (nan_of x h)
 
 size_fits : (s : Bool) (m : ℕ) (e : ℤ) → T (fits binary64 (fin s m e)) → T (fits binary64 (fin false m e))
 unfolding fits

@@ -212,8 +212,8 @@ whole_of v q j e f h = go (le_or_lt 1074 j)
         split : (j : ℕ) → 1074 ≤ j → j ≡ j - 1074 + 1074
         split j l = omega arith
 
-nearest_whole_lem : (k u : ℕ) → 0 < u → nearest_whole (k * u) u ≡ k
-nearest_whole_lem k u P = div_same (2 * (k * u) + u) (2 * u) (2 * k + 1) 2 (twice u P) (lit< tt) (cross k u) ∙ half k
+nearest_whole_of_multiple : (k u : ℕ) → 0 < u → nearest_whole (k * u) u ≡ k
+nearest_whole_of_multiple k u P = div_same (2 * (k * u) + u) (2 * u) (2 * k + 1) 2 (twice u P) (lit< tt) (cross k u) ∙ half k
   where
     twice : (a : ℕ) → 0 < a → 0 < 2 * a
     twice a h = omega arith
@@ -233,7 +233,7 @@ rounded_large (fin s m e) t h l b =
     let i : Is (fin s m e) false X.v = (f, X.is.1) in
     let k = whole_of X.v X.q X.j X.shape X.few (more X.v i) in
     let r : round_half_away (fin s m e) ≡ round binary64 false k.0 1 =
-    opened ∙ ap (λ (z : Bool). round binary64 z (nearest_whole (m * up e) (down e)) 1) f ∙ ap (λ (z : ℕ). round binary64 false z 1) (whole_units m e X.v X.is.1 ∙ ap (λ (z : ℕ). nearest_whole z U) k.1 ∙ nearest_whole_lem k.0 U U_pos) in
+    opened ∙ ap (λ (z : Bool). round binary64 z (nearest_whole (m * up e) (down e)) 1) f ∙ ap (λ (z : ℕ). round binary64 false z 1) (whole_units m e X.v X.is.1 ∙ ap (λ (z : ℕ). nearest_whole z U) k.1 ∙ nearest_whole_of_multiple k.0 U U_pos) in
     let g : round binary64 false k.0 1 ≡ round binary64 false X.v U = round_same binary64 false k.0 1 X.v U (lit< tt) U_pos (sym k.1 ∙ one X.v) in
     one_float (fin s m e) (round binary64 false X.v U) false X.v t (round-fits binary64 false X.v U) i (exact_is false X.v X.q X.j X.shape X.few X.small) ∙ sym g ∙ sym r
   where
@@ -278,7 +278,7 @@ rounded_zero (fin s zero e) t h = zero_fits e t ∙ sym answer
         flat a u d = omega arith
 
         nearest_none : (u : ℕ) → 0 < u → nearest_whole 0 u ≡ 0
-        nearest_none u P = subst (λ (z : ℕ). nearest_whole z u ≡ 0) (none u) (nearest_whole_lem 0 u P)
+        nearest_none u P = subst (λ (z : ℕ). nearest_whole z u ≡ 0) (none u) (nearest_whole_of_multiple 0 u P)
           where
             none : (u : ℕ) → 0 * u ≡ 0
             none u = omega arith

@@ -3,14 +3,14 @@ use Rattle.std.specs.Prelude.{ℕ, ◌+◌, ◌-◌, ◌^◌, Bool, cond, not, �
 use Rattle.std.specs.Float.{binary64}
 use Rattle.std.specs.Float.Ieee.{lt, eq}
 use Rattle.float.specs.Helpers.{negative}
-use Rattle.float.specs.declared.Comparison.{Comparison}
-use Rattle.float.specs.declared.Comparison.TheVariants.{Less, Equal, Greater}
+use Rattle.std.specs.declared.cmp.Ordering.{Ordering}
+use Rattle.std.specs.declared.cmp.Ordering.TheVariants.{Less, Equal, Greater}
 
 -- x stands before y
 unfoldable pub before : Float → Float → Bool
 before x y = cond (is_nan y) (not (is_nan x)) (lt x y || (eq x y && (negative x && not (negative y))))
 
-unfoldable pub total_compare : Float → Float → Comparison
+unfoldable pub total_compare : Float → Float → Ordering
 total_compare x y = cond (before x y) Less (cond (before y x) Greater Equal)
 
 -- A whole number below 2 ^ 64 for each float, in that order (`proofs/TotalOrder.antt`): a bit pattern with the sign clear goes above 2 ^ 63, and one with the sign set below it, the other way round.

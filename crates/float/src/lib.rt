@@ -1,4 +1,5 @@
-// Total functions on every f64: what Rust's standard library gives the kinematics, but for the square root, which is crate root. Each answers a definition of specs/ at every float, the nan and the infinities among them.
+// Total functions on every f64: what Rust's standard library gives the kinematics, but for the square root, which is
+// crate root. Each answers a definition of specs/ at every float, the nan and the infinities among them.
 #![tactic(auto)]
 
 ghost use Rattle.std.specs.Prelude.{◌≡◌, true, false};
@@ -7,39 +8,32 @@ ghost use Rattle.std.specs.Float.Ieee.Scale.{finite as is_finite};
 ghost use Rattle.float.specs.Helpers as S;
 ghost use Rattle.float.specs.TotalOrder as Total;
 
-#[derive(Clone, Copy)]
-pub enum Comparison {
-    Less,
-    Equal,
-    Greater,
-}
+use std::cmp::Ordering;
 
 // Neither a nan nor an infinity.
 pub fn finite(x: f64) -> bool
     ensures { result ≡ is_finite x }
 {
-    let infinity = f64::from_bits(9218868437227405312);
-    if x < infinity {
-        return -infinity < x;
-    }
-    false
+    x.is_finite()
 }
 
-// The absolute value.
+// The absolute value. `f64::abs` compares with zero, which is guessed wrong on mixed signs and costs more than the
+// bits.
 pub fn size(x: f64) -> f64
     ensures { result ≡ S.size_of x }
 {
-    if x != x {
+    if x.is_nan() {
         return x;
     }
     f64::from_bits(f64::to_bits(x) % 9223372036854775808)
 }
 
 // A number that stands in totalOrder as x does.
+#[tactic(auto, unfolding(crate::specs::TotalOrder::order_key))]
 pub fn order_key(x: f64) -> u64
     ensures { result ≡ Total.order_key x }
 {
-    if x != x {
+    if x.is_nan() {
         return 18446744073709551615;
     }
     let bits = f64::to_bits(x);
@@ -53,67 +47,42 @@ pub fn order_key(x: f64) -> u64
 pub fn precedes(x: f64, y: f64) -> bool
     ensures { result ≡ Total.before x y }
 {
-    let first = order_key(x);
-    let second = order_key(y);
-    first < second
+    order_key(x) < order_key(y)
 }
 
-// Rust's total_cmp.
-pub fn total_cmp(x: f64, y: f64) -> Comparison
+// Rust's total_cmp. The library's `f64::total_cmp` says nothing of a NaN.
+pub fn total_cmp(x: f64, y: f64) -> Ordering
     ensures { result ≡ Total.total_compare x y }
 {
     if precedes(x, y) {
-        return Comparison::Less;
+        return Ordering::Less;
     }
     if precedes(y, x) {
-        return Comparison::Greater;
+        return Ordering::Greater;
     }
-    Comparison::Equal
+    Ordering::Equal
 }
 
 // The nearest whole number, a half away from zero.
 pub fn round(x: f64) -> f64
     ensures { result ≡ S.round_half_away x }
 {
-    if x == 0.0 {
-        return x;
-    }
-    if x < 0.0 {
-        return -round_above(-x);
-    }
-    round_above(x)
-}
-
-// The same of what is above zero: half of the whole part of 2 x, rounded up. From 2^52 on every f64 is a whole number.
-fn round_above(x: f64) -> f64
-    requires { (lt x S.nought ≡ false) × (eq x S.nought ≡ false) }
-    ensures { result ≡ S.round_half_away x }
-{
-    if x < 4503599627370496.0 {
-        let halves = std::num::truncating_f64_to_u64(2.0 * x);
-        return std::num::nearest_u64_to_f64((halves + 1) / 2);
-    }
-    x
+    x.round()
 }
 
 // At least -1.0 and at most 1.0.
 pub fn clamp_unit(x: f64) -> f64
     ensures { result ≡ S.clamp_unit x }
 {
-    if x < -1.0 {
-        return -1.0;
-    }
-    if 1.0 < x {
-        return 1.0;
-    }
-    x
+    x.clamp(-1.0, 1.0)
 }
 
-// The larger of the two.
+// The larger of the two. `f64::max` leaves open which of +0.0 and -0.0 comes out; here it is the first.
+#[tactic(auto, unfolding(crate::specs::Helpers::maximum))]
 pub fn maximum(x: f64, y: f64) -> f64
     ensures { result ≡ S.maximum x y }
 {
-    if x != x {
+    if x.is_nan() {
         return y;
     }
     if x < y {
@@ -122,11 +91,12 @@ pub fn maximum(x: f64, y: f64) -> f64
     x
 }
 
-// The smaller of the two.
+// The smaller of the two, where `f64::min` leaves the same open.
+#[tactic(auto, unfolding(crate::specs::Helpers::minimum))]
 pub fn minimum(x: f64, y: f64) -> f64
     ensures { result ≡ S.minimum x y }
 {
-    if x != x {
+    if x.is_nan() {
         return y;
     }
     if y < x {
@@ -138,11 +108,11 @@ pub fn minimum(x: f64, y: f64) -> f64
 pub fn to_radians(degrees: f64) -> f64
     ensures { result ≡ S.to_radians degrees }
 {
-    degrees * 0.017453292519943295
+    degrees.to_radians()
 }
 
 pub fn to_degrees(radians: f64) -> f64
     ensures { result ≡ S.to_degrees radians }
 {
-    radians * 57.29577951308232
+    radians.to_degrees()
 }

@@ -8,6 +8,7 @@ use mathlib.Core.Bool.{Bool, true, false, ◌&&◌}
 use lib.Dec.{lit≤}
 use lib.Ieee.{Float, le}
 use lib.Ieee.Scale.{finite}
+use Rattle.std.specs.Prelude.{Some}
 use Rattle.float.specs.Units.{U}
 use Rattle.float.specs.Helpers.{one, size_of}
 use Rattle.float.proofs.Rounding.{U_pos}
@@ -18,7 +19,6 @@ use Rattle.root.specs.Root.{root}
 use Rattle.root.proofs.RootSizes.{root_not_zero}
 use Rattle.geometry.specs.declared.Vec3.{Vec3}
 use Rattle.geometry.specs.declared.Turn.{Turn}
-use Rattle.geometry.specs.declared.Direction.TheVariants.{Unit as Along}
 use Rattle.geometry.specs.Vector as G
 use Rattle.geometry.specs.Turn.{rotate_vector}
 use Rattle.geometry.specs.Direction.{smallest, tiny, with_length, unit_direction}
@@ -61,7 +61,7 @@ module _ (v : Vec3) (o : Out 10000 (8 * ω) v) where
   length_finite : finite (root (G.dot v v)) ≡ true
   length_finite = finite_small 100 (root (G.dot v v)) (unfold G.norm in norm_small v (vec_raise 14 90 v (lit≤ tt) small))
 
-  pub out_directed : unit_direction v ≡ Along (G.scale v (G.over one (root (G.dot v v))))
+  pub out_directed : unit_direction v ≡ Some (G.scale v (G.over one (root (G.dot v v))))
   unfolding unit_direction with_length
   out_directed = rw (vec_finite 14 v small, not_tiny, length_finite, root_not_zero (G.dot v v) (dot_fits v v) (dot_least 14 v small not_tiny))
 

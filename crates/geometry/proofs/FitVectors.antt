@@ -6,11 +6,10 @@ use lib.Dec.{T}
 use lib.Ieee.{Float, binary64, eq, fits}
 use lib.Ieee.Fits.{add-fits, mul-fits}
 use lib.Ieee.Scale.{finite}
+use Rattle.std.specs.Prelude.{None, Option, Some}
 use Rattle.float.specs.Helpers.{nought, one}
 use Rattle.root.specs.Root.{root}
 use Rattle.geometry.specs.declared.Vec3.{Vec3}
-use Rattle.geometry.specs.declared.Direction.{Direction}
-use Rattle.geometry.specs.declared.Direction.TheVariants.{Unit as Along, Nowhere}
 use Rattle.geometry.specs.Vector.{add, scale, dot, over}
 use Rattle.geometry.specs.Direction.{all_finite, tiny, with_length, unit_direction, along, unit_or}
 
@@ -30,28 +29,28 @@ unfolding dot
 dot_fits v w = add-fits binary64 _ _
 
 -- ---- unit vectors
-abbrev FitDirection : Direction → Type 0
-FitDirection (Along u) = FitVec u
-FitDirection Nowhere = Unit {0}
+abbrev FitDirection : Option Vec3 → Type 0
+FitDirection (Some u) = FitVec u
+FitDirection None = Unit {0}
 
 direction_fits : (v : Vec3) → FitDirection (unit_direction v)
 unfolding unit_direction with_length
 direction_fits v = go (all_finite v) (tiny v) (finite (root (dot v v))) (eq (root (dot v v)) nought)
   where
-    go : (a b c d : Bool) → FitDirection (cond (not a) Nowhere (cond b Nowhere (cond (not c) Nowhere (cond d Nowhere (Along (scale v (over one (root (dot v v)))))))))
+    go : (a b c d : Bool) → FitDirection (cond (not a) None (cond b None (cond (not c) None (cond d None (Some (scale v (over one (root (dot v v)))))))))
     go false b c d = tt
     go true true c d = tt
     go true false false d = tt
     go true false true true = tt
     go true false true false = scaled_fits v (over one (root (dot v v)))
 
-pub unit_fits : (v u : Vec3) → unit_direction v ≡ Along u → FitVec u
+pub unit_fits : (v u : Vec3) → unit_direction v ≡ Some u → FitVec u
 unit_fits v u e = subst FitDirection e (direction_fits v)
 
 pub unit_or_fits : (v fallback : Vec3) → FitVec fallback → FitVec (unit_or v fallback)
 unfolding unit_or
 unit_or_fits v fallback F = go (unit_direction v) (direction_fits v)
   where
-    go : (d : Direction) → FitDirection d → FitVec (along d fallback (λ u. u))
-    go (Along u) h = h
-    go Nowhere h = F
+    go : (d : Option Vec3) → FitDirection d → FitVec (along d fallback (λ u. u))
+    go (Some u) h = h
+    go None h = F

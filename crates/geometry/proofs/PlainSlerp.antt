@@ -6,6 +6,7 @@ use Prim.Native.Nat.{◌*◌, ◌^◌}
 use lib.Dec.{T, lit≤, lit<}
 use lib.Ieee as Ieee
 use lib.Ieee.{Float, binary64, fits, of_bits}
+use Rattle.std.specs.Prelude.{None, Option, Some}
 use Rattle.float.specs.Units.{U}
 use Rattle.float.specs.Helpers.{nought, one, clamp_unit}
 use Rattle.float.proofs.UpTo.{UpTo, up_to_mul, up_to_sub}
@@ -18,8 +19,6 @@ use Rattle.trig.proofs.Laws.{sine_is, cosine_is, arccosine_is}
 use Rattle.trig.proofs.ArccosineLaws.{clamped_range}
 use Rattle.trig.proofs.AngleDegrees.{arccosine_up_to, up_to_served}
 use Rattle.geometry.specs.declared.Vec3.{Vec3}
-use Rattle.geometry.specs.declared.Direction.{Direction}
-use Rattle.geometry.specs.declared.Direction.TheVariants.{Unit as Along, Nowhere}
 use Rattle.geometry.specs.Vector.{add, scale, dot, cross, minus, times, over}
 use Rattle.geometry.specs.Direction.{along, unit_direction, unit_or}
 use Rattle.geometry.specs.Slerp.{flat, pi, side_helper, half_turn, weighted, slerp_cosine, slerp_axis}
@@ -78,22 +77,22 @@ module _ (t : Float) (B : UpTo 1 t) where
   unfolding slerp_axis
   slerp_plain start end F H = go (unit_direction start) (unit_direction end) (λ u e. unit_small start u F e) (λ u e. unit_small end u H e)
     where
-      go : (d e : Direction) → ((u : Vec3) → d ≡ Along u → SmallVec 1 u) → ((u : Vec3) → e ≡ Along u → SmallVec 1 u)
+      go : (d e : Option Vec3) → ((u : Vec3) → d ≡ Some u → SmallVec 1 u) → ((u : Vec3) → e ≡ Some u → SmallVec 1 u)
           → along d end (λ first. along e first (λ last. slerp_cosine first last (clamp_unit (dot first last)) t))
           ≡ along d end (λ first. along e first (λ last. plain_between first last (angle_float (sine_of_cosine (clamp_unit (dot first last))) (clamp_unit (dot first last))) (clamp_unit (dot first last)) t))
-      go (Along a) (Along b) A C =
+      go (Some a) (Some b) A C =
           between_plain a b (clamp_unit (dot a b)) (clamp_fits (dot a b) (dot_fits a b))
           (clamped_range (dot a b) (dot_fits a b) (finite_small 7 (dot a b) (small_dot 1 1 7 a b (lit≤ tt) (lit≤ tt) (A a refl) (C b refl)))).0
-      go (Along a) Nowhere A C = refl
-      go Nowhere e A C = refl
+      go (Some a) None A C = refl
+      go None e A C = refl
 
 -- ---- doubles
 half_fits : (start : Vec3) (t : Float) → FitVec start → FitVec (plain_half_turn start t)
 half_fits start t F = go (unit_direction (cross start (side_helper start)))
   where
-    go : (d : Direction) → FitVec (along d start (λ side. unit_or (add (scale start (cosine_float (times t pi))) (scale side (sine_float (times t pi)))) start))
-    go (Along side) = unit_or_fits _ start F
-    go Nowhere = F
+    go : (d : Option Vec3) → FitVec (along d start (λ side. unit_or (add (scale start (cosine_float (times t pi))) (scale side (sine_float (times t pi)))) start))
+    go (Some side) = unit_or_fits _ start F
+    go None = F
 
 between_fits : (start end : Vec3) (theta cosine t : Float) → FitVec start → FitVec (plain_between start end theta cosine t)
 between_fits start end theta cosine t F =
@@ -102,8 +101,8 @@ between_fits start end theta cosine t F =
 pub slerp_fits : (start end : Vec3) (t : Float) → UpTo 1 t → FitVec start → FitVec end → FitVec (slerp_axis start end t)
 slerp_fits start end t B F H = subst FitVec (sym (slerp_plain t B start end F H)) (go (unit_direction start) (unit_direction end) (λ u e. unit_fits start u e))
   where
-    go : (d e : Direction) → ((u : Vec3) → d ≡ Along u → FitVec u)
+    go : (d e : Option Vec3) → ((u : Vec3) → d ≡ Some u → FitVec u)
         → FitVec (along d end (λ first. along e first (λ last. plain_between first last (angle_float (sine_of_cosine (clamp_unit (dot first last))) (clamp_unit (dot first last))) (clamp_unit (dot first last)) t)))
-    go (Along a) (Along b) A = between_fits a b _ _ t (A a refl)
-    go (Along a) Nowhere A = A a refl
-    go Nowhere e A = H
+    go (Some a) (Some b) A = between_fits a b _ _ t (A a refl)
+    go (Some a) None A = A a refl
+    go None e A = H

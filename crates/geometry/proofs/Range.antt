@@ -41,13 +41,13 @@ widest_is : Is widest false (45000 * U)
 unfolding of_bits U
 widest_is = (refl, refl)
 
-served_at_lem : (x : Float) → UpTo 45000 x → turnable x ≡ true
-served_at_lem x X = let p = up_to_le 45000 widest widest_is x X in within_turnable x p.0 p.1
+served_up_to : (x : Float) → UpTo 45000 x → turnable x ≡ true
+served_up_to x X = let p = up_to_le 45000 widest widest_is x X in within_turnable x p.0 p.1
 
 pub up_to_turnable : (n : ℕ) (x : Float) → n ≤ 45000 → UpTo n x → Turnable x
 up_to_turnable n x h X =
     let Y = up_to_more n 45000 x h X in
-    record { number = is_true (finite x) (up_to_finite n x X); forth = served_at_lem x Y; back = served_at_lem (neg x) (up_to_neg 45000 x Y) }
+    record { number = is_true (finite x) (up_to_finite n x X); forth = served_up_to x Y; back = served_up_to (neg x) (up_to_neg 45000 x Y) }
 
 -- from a size that is tested against c, a whole number of degrees
 pub sized_turnable : (n : ℕ) (c : Float) → Is c false (n * U) → n ≤ 45000 → (x : Float) → le (size_of x) c ≡ true → Turnable x

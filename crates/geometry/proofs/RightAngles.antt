@@ -27,21 +27,21 @@ ninety = of_bits binary64 0x4056_8000_0000_0000
 abbrev pub straight : Float
 straight = of_bits binary64 0x4066_8000_0000_0000
 
-pub quarter_turn_lem : turn_of ninety ≡ record { sine = one; cosine = nought }
+pub turn_of_ninety : turn_of ninety ≡ record { sine = one; cosine = nought }
 unfolding turn_of degree_pair turnable sine_degrees cosine_degrees degree_float degree_k degree_below degree_rest quarter_turns radians_of to_radians sine_kernel cosine_kernel sum step reciprocal add sub mul neg of_bits of_int to_unsigned le lt eq round
-quarter_turn_lem = refl
+turn_of_ninety = refl
 
 pub quarter_turn_back : turn_of (neg ninety) ≡ record { sine = neg one; cosine = nought }
 unfolding turn_of degree_pair turnable sine_degrees cosine_degrees degree_float degree_k degree_below degree_rest quarter_turns radians_of to_radians sine_kernel cosine_kernel sum step reciprocal add sub mul neg of_bits of_int to_unsigned le lt eq round
 quarter_turn_back = refl
 
-pub half_turn_lem : turn_of straight ≡ record { sine = nought; cosine = neg one }
+pub turn_of_straight : turn_of straight ≡ record { sine = nought; cosine = neg one }
 unfolding turn_of degree_pair turnable sine_degrees cosine_degrees degree_float degree_k degree_below degree_rest quarter_turns radians_of to_radians sine_kernel cosine_kernel sum step reciprocal add sub mul neg of_bits of_int to_unsigned le lt eq round
-half_turn_lem = refl
+turn_of_straight = refl
 
 pub x_to_y : rotate_vector Z X (turn_of ninety) ≡ Y
 unfolding rotate_vector G.add cross dot scale add sub mul neg of_bits round
-x_to_y = rw quarter_turn_lem refl
+x_to_y = rw turn_of_ninety refl
 
 pub x_to_minus_y : rotate_vector Z X (turn_of (neg ninety)) ≡ vector nought (neg one) nought
 unfolding rotate_vector G.add cross dot scale add sub mul neg of_bits round
@@ -49,8 +49,8 @@ x_to_minus_y = rw quarter_turn_back refl
 
 pub x_to_minus_x : rotate_vector Z X (turn_of straight) ≡ vector (neg one) nought nought
 unfolding rotate_vector G.add cross dot scale add sub mul neg of_bits round
-x_to_minus_x = rw half_turn_lem refl
+x_to_minus_x = rw turn_of_straight refl
 
 pub y_to_minus_x : rotate_vector Z Y (turn_of ninety) ≡ vector (neg one) nought nought
 unfolding rotate_vector G.add cross dot scale add sub mul neg of_bits round
-y_to_minus_x = rw quarter_turn_lem refl
+y_to_minus_x = rw turn_of_ninety refl

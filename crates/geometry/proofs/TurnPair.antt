@@ -10,12 +10,12 @@ use lib.Dec.{T}
 use lib.Ieee.{Float, nan, inf, fin, binary64, up, down, fits}
 use lib.Ieee.Bits.{of_bits-fits}
 use lib.Ieee.Fits.{down_pos}
+use Rattle.std.specs.Prelude.{None, Option, Some}
 use Rattle.float.specs.Units.{U}
 use Rattle.float.specs.Helpers.{nought, one}
 use Rattle.float.proofs.Units.{Held, held}
+use Rattle.trig.specs.declared.Pair.{Pair}
 use Rattle.trig.specs.DegreeSteps.{degree_pair}
-use Rattle.trig.specs.declared.PairAnswer.{PairAnswer}
-use Rattle.trig.specs.declared.PairAnswer.TheVariants.{Values, OutOfRange}
 use Rattle.trig.proofs.DegreeSizes.{Tidy, TidyPair, pair_tidy, nought_tidy, one_tidy}
 use Rattle.trig.proofs.DegreeWide.{Wide, WidePair, pair_wide, one_wide}
 use Rattle.geometry.specs.declared.Turn.{Turn}
@@ -62,9 +62,9 @@ pair_sized s c S C w = record { sine = S.units; cosine = C.units; sine_most = S.
 pub still_sized : TurnSized (record { sine = nought; cosine = one })
 still_sized = pair_sized nought one (sizes nought (of_bits-fits binary64 0) nought_tidy) (sizes one (of_bits-fits binary64 0x3ff0_0000_0000_0000) one_tidy) (inr one_wide)
 
-turned_sized : (p : PairAnswer) → TidyPair p → WidePair p → TurnSized (turned p)
-turned_sized (Values p) h w = pair_sized p.sine p.cosine (sizes p.sine h.0.0 h.0.1) (sizes p.cosine h.1.0 h.1.1) w
-turned_sized OutOfRange h w = still_sized
+turned_sized : (p : Option Pair) → TidyPair p → WidePair p → TurnSized (turned p)
+turned_sized (Some p) h w = pair_sized p.sine p.cosine (sizes p.sine h.0.0 h.0.1) (sizes p.cosine h.1.0 h.1.1) w
+turned_sized None h w = still_sized
 
 -- ---- the law
 pub turn_pair : (degrees : Float) → TurnSized (turn_of degrees)

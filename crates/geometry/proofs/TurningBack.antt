@@ -2,13 +2,13 @@
 -- for every float: so `turned_back` of the one is the other. Beyond the range both are no turn.
 use mathlib.Core.Path.{◌≡◌, refl, sym, ap, ◌∙◌}
 use lib.Ieee.{Float, binary64, add, sub, neg, of_bits}
+use Rattle.std.specs.Prelude.{None, Option, Some}
 use Rattle.float.specs.Helpers.{nought}
 use Rattle.float.proofs.Order.{neg_neg}
 use Rattle.float.proofs.Commute.{add_commutes}
+use Rattle.trig.specs.declared.Pair.{Pair}
 use Rattle.trig.specs.Degrees.{plain, opposite}
 use Rattle.trig.specs.DegreeSteps.{degree_pair}
-use Rattle.trig.specs.declared.PairAnswer.{PairAnswer}
-use Rattle.trig.specs.declared.PairAnswer.TheVariants.{Values, OutOfRange}
 use Rattle.trig.proofs.DegreeBack.{pair_back}
 use Rattle.geometry.specs.Turn.{turned, turn_of, turned_back}
 
@@ -20,10 +20,10 @@ no_turn : sub binary64 nought nought ≡ nought
 unfolding sub add neg of_bits
 no_turn = refl
 
-back : (p : PairAnswer) → turned_back (turned p) ≡ turned (opposite p)
+back : (p : Option Pair) → turned_back (turned p) ≡ turned (opposite p)
 unfolding turned_back
-back (Values p) = rw (minus_plain p.sine)
-back OutOfRange = rw no_turn
+back (Some p) = rw (minus_plain p.sine)
+back None = rw no_turn
 
 pub turn_back : (a : Float) → turned_back (turn_of (neg a)) ≡ turn_of a
 unfolding turn_of

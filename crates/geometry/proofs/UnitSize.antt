@@ -17,6 +17,7 @@ use lib.Ieee.{Float, binary64, unlike, add, mul, div, le, eq, round, of_bits, fi
 use lib.Ieee.Bits.{is_true}
 use lib.Ieee.Order.{round_mono}
 use lib.Ieee.Scale.{finite}
+use Rattle.std.specs.Prelude.{None, Option, Some}
 use Rattle.float.specs.Units.{U, Is}
 use Rattle.float.specs.Helpers.{nought, one, size_of}
 use Rattle.float.proofs.Order as order
@@ -30,8 +31,6 @@ use Rattle.root.specs.Root.{root, Rooted}
 use Rattle.root.proofs.RootOrder.{sq_is}
 use Rattle.root.proofs.RootSizes.{root_fits, root_finite, RootSquare, root_square, units_rooted, short, short_units, root_long}
 use Rattle.geometry.specs.declared.Vec3.{Vec3}
-use Rattle.geometry.specs.declared.Direction.{Direction}
-use Rattle.geometry.specs.declared.Direction.TheVariants.{Unit as Along, Nowhere}
 use Rattle.geometry.specs.Vector as G
 use Rattle.geometry.specs.Direction.{smallest, all_finite, tiny, with_length, unit_direction}
 use Rattle.geometry.proofs.FitVectors.{FitVec, dot_fits}
@@ -382,14 +381,14 @@ module _ (v : Vec3) (fit : FitVec v) (numbers : all_finite v ≡ true) (not_tiny
   dot_units : 2 ^ 974 ≤ three.v
   dot_units = units_le short (G.dot v v) false (2 ^ 974) three.v short_units three.is least
 
-  near_square_lem : (p a : ℕ) → Relative p (a * a * U) (U * U) → Near (p * U) (a * a) U
-  near_square_lem p a r = let s = relative_scale p (a * a) U U U_pos r in near_of (p * U) (a * a) U s.high s.low
+  square_near : (p a : ℕ) → Relative p (a * a * U) (U * U) → Near (p * U) (a * a) U
+  square_near p a r = let s = relative_scale p (a * a) U U U_pos r in near_of (p * U) (a * a) U s.high s.low
 
   sum_near : SumNear (h.0.v * h.0.v) (h.1.v * h.1.v) (h.2.v * h.2.v) rx.v ry.v rz.v two.v three.v U
   sum_near = record {
-    first = near_square_lem rx.v h.0.v rx.near;
-    second = near_square_lem ry.v h.1.v ry.near;
-    third = near_square_lem rz.v h.2.v rz.near;
+    first = square_near rx.v h.0.v rx.near;
+    second = square_near ry.v h.1.v ry.near;
+    third = square_near rz.v h.2.v rz.near;
     two = near_whole two.v (rx.v + ry.v) U U_pos two.near;
     three = near_whole three.v (two.v + rz.v) U U_pos three.near;
     least = le_trans (lit≤ tt) dot_units;
@@ -493,24 +492,24 @@ module _ (v : Vec3) (fit : FitVec v) (numbers : all_finite v ≡ true) (not_tiny
   }
 
 -- ---- the law
-abbrev SizedDirection : Direction → Type 0
-SizedDirection (Along u) = UnitSized u
-SizedDirection Nowhere = Unit {0}
+abbrev SizedDirection : Option Vec3 → Type 0
+SizedDirection (Some u) = UnitSized u
+SizedDirection None = Unit {0}
 
 direction_sized : (v : Vec3) → FitVec v → SizedDirection (unit_direction v)
 unfolding unit_direction with_length
 direction_sized v fit = go (all_finite v) (tiny v) (finite (root (G.dot v v))) (eq (root (G.dot v v)) nought) refl refl refl
   where
     go : (a b c d : Bool) → all_finite v ≡ a → tiny v ≡ b → finite (root (G.dot v v)) ≡ c
-        → SizedDirection (cond (not a) Nowhere (cond b Nowhere (cond (not c) Nowhere (cond d Nowhere (Along (G.scale v (G.over one (root (G.dot v v)))))))))
+        → SizedDirection (cond (not a) None (cond b None (cond (not c) None (cond d None (Some (G.scale v (G.over one (root (G.dot v v)))))))))
     go false b c d e f g = tt
     go true true c d e f g = tt
     go true false false d e f g = tt
     go true false true true e f g = tt
     go true false true false e f g = scaled_sized v fit e f g
 
-pub unit_size : (v u : Vec3) → FitVec v → unit_direction v ≡ Along u → UnitSized u
+pub unit_size : (v u : Vec3) → FitVec v → unit_direction v ≡ Some u → UnitSized u
 unit_size v u fit e = subst SizedDirection e (direction_sized v fit)
 
-pub unit_small : (v u : Vec3) → FitVec v → unit_direction v ≡ Along u → SmallVec 1 u
+pub unit_small : (v u : Vec3) → FitVec v → unit_direction v ≡ Some u → SmallVec 1 u
 unit_small v u fit e = (unit_size v u fit e).small

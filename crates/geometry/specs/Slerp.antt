@@ -1,28 +1,25 @@
 -- The axis at t between two axes, on the great circle, and the angle between two. Equal and opposite axes have branches of their own, and so has a sum of exactly zero.
-use Rattle.std.specs.Prelude.{cond, Float}
+use Rattle.std.specs.Prelude.{cond, Float, None, Option, Some}
 use Rattle.std.specs.Float.Ieee as Ieee
 use Rattle.std.specs.Float.{binary64}
 use Rattle.std.specs.Float.Ieee.{of_bits}
 use Rattle.float.specs.Helpers.{nought, one, size_of, clamp_unit, to_degrees}
+use Rattle.trig.specs.declared.Pair.{Pair}
 use Rattle.trig.specs.Waves.{sine_of, cosine_of, paired}
 use Rattle.trig.specs.Arctangent.{arctangent_of}
 use Rattle.trig.specs.Arccosine.{arccosine_of}
-use Rattle.trig.specs.declared.Answer.{Answer}
-use Rattle.trig.specs.declared.Answer.TheVariants.{Value, OutOfRange}
-use Rattle.trig.specs.declared.PairAnswer.{PairAnswer}
-use Rattle.trig.specs.declared.PairAnswer.TheVariants.{Values, OutOfRange as NoPair}
 use Rattle.geometry.specs.Vector.{vector, add, scale, dot, cross, norm, minus, times, over}
 use Rattle.geometry.specs.Direction.{along, unit_direction, unit_or}
 use Rattle.geometry.specs.declared.Vec3.{Vec3}
 
 -- what an answer gives a step, or a fallback where there is none
-abbrev pub with : {A : Type 0} → Answer → A → (Float → A) → A
-with (Value v) fallback step = step v
-with OutOfRange fallback step = fallback
+abbrev pub with : {A : Type 0} → Option Float → A → (Float → A) → A
+with (Some v) fallback step = step v
+with None fallback step = fallback
 
-abbrev pub with_both : {A : Type 0} → PairAnswer → A → (Float → Float → A) → A
-with_both (Values p) fallback step = step p.sine p.cosine
-with_both NoPair fallback step = fallback
+abbrev pub with_both : {A : Type 0} → Option Pair → A → (Float → Float → A) → A
+with_both (Some p) fallback step = step p.sine p.cosine
+with_both None fallback step = fallback
 
 -- 0.9, 1e-12, the double nearest to Pi, 180
 abbrev pub near_x : Float

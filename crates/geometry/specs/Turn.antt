@@ -1,17 +1,16 @@
 -- Turning: Rodrigues' formula, (v cos + (axis × v) sin) + axis ((axis · v) (1 - cos)), for a unit axis.
-use Rattle.std.specs.Prelude.{Float}
+use Rattle.std.specs.Prelude.{Float, None, Option, Some}
 use Rattle.float.specs.Helpers.{nought, one}
+use Rattle.trig.specs.declared.Pair.{Pair}
 use Rattle.trig.specs.DegreeSteps.{degree_pair}
-use Rattle.trig.specs.declared.PairAnswer.{PairAnswer}
-use Rattle.trig.specs.declared.PairAnswer.TheVariants.{Values, OutOfRange}
 use Rattle.geometry.specs.Vector.{add, sub, scale, dot, cross, times, minus}
 use Rattle.geometry.specs.declared.Vec3.{Vec3}
 use Rattle.geometry.specs.declared.Turn.{Turn}
 
 -- beyond 45,000 degrees: no turn
-abbrev pub turned : PairAnswer → Turn
-turned (Values p) = record { sine = p.sine; cosine = p.cosine }
-turned OutOfRange = record { sine = nought; cosine = one }
+abbrev pub turned : Option Pair → Turn
+turned (Some p) = record { sine = p.sine; cosine = p.cosine }
+turned None = record { sine = nought; cosine = one }
 
 -- by that many degrees
 unfoldable pub turn_of : Float → Turn

@@ -1,5 +1,6 @@
-// Vectors, directions, turns and rigid placements, operation by operation in the order of the Rust (top of kinematics.rs, geom.rs). Structs of numbers go in and come out by value.
-// Every function is total: where a step of the Rust could give nothing, its caller opens an enum.
+// Vectors, directions, turns and rigid placements, operation by operation in the order of the Rust (top of
+// kinematics.rs, geom.rs). Structs of numbers go in and come out by value. Every function is total: where a step of the
+// Rust could give nothing, its caller opens an enum.
 #![tactic(auto)]
 
 mod normal;
@@ -11,20 +12,13 @@ mod vector;
 pub use normal::{all_finite, unit_direction, unit_or};
 pub use rotation::{rotate_point, rotate_vector};
 pub use slerp::{angle_between_deg, slerp_axis};
-pub use vector::{add, cross, dot, gap_vec, lerp_vec, norm, scale, sub};
+pub use vector::{cross, dot, gap_vec, lerp_vec, norm};
 
-#[derive(Clone, Copy)]
+#[derive(Clone, Copy, Default)]
 pub struct Vec3 {
     pub x: f64,
     pub y: f64,
     pub z: f64,
-}
-
-// The unit vector of a direction, or none: see unit_direction.
-#[derive(Clone, Copy)]
-pub enum Direction {
-    Unit(Vec3),
-    Nowhere,
 }
 
 // The sine and cosine of an angle, by which a vector is turned.

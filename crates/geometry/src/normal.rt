@@ -2,20 +2,15 @@
 ghost use Rattle.std.specs.Prelude.{◌≡◌};
 ghost use Rattle.geometry.specs.Direction as S;
 
-use crate::vector::{dot, scale};
-use crate::{Direction, Vec3};
+use crate::Vec3;
+use crate::vector::dot;
 
 // Every component is finite.
+#[tactic(auto, unfolding(crate::specs::Direction::all_finite))]
 pub fn all_finite(v: Vec3) -> bool
     ensures { result ≡ S.all_finite v }
 {
-    if !float::finite(v.x) {
-        return false;
-    }
-    if !float::finite(v.y) {
-        return false;
-    }
-    float::finite(v.z)
+    float::finite(v.x) && float::finite(v.y) && float::finite(v.z)
 }
 
 // No component is more than 1e-15 in size.
@@ -34,27 +29,28 @@ fn tiny(v: Vec3) -> bool
 }
 
 // v by its length.
-fn with_length(v: Vec3, len: f64) -> Direction
+fn with_length(v: Vec3, len: f64) -> Option<Vec3>
     ensures { result ≡ S.with_length v len }
 {
     if !float::finite(len) {
-        return Direction::Nowhere;
+        return None;
     }
     if len == 0.0 {
-        return Direction::Nowhere;
+        return None;
     }
-    Direction::Unit(scale(v, 1.0 / len))
+    Some(v * (1.0 / len))
 }
 
-// Nowhere for a component that is not finite, for a vector of which no component is above 1e-15 in size, and for a length that overflows.
-pub fn unit_direction(v: Vec3) -> Direction
+// Nowhere for a component that is not finite, for a vector of which no component is above 1e-15 in size, and for a
+// length that overflows.
+pub fn unit_direction(v: Vec3) -> Option<Vec3>
     ensures { result ≡ S.unit_direction v }
 {
     if !all_finite(v) {
-        return Direction::Nowhere;
+        return None;
     }
     if tiny(v) {
-        return Direction::Nowhere;
+        return None;
     }
     let len = root::quick_root(dot(v, v));
     with_length(v, len)
@@ -64,8 +60,5 @@ pub fn unit_direction(v: Vec3) -> Direction
 pub fn unit_or(v: Vec3, fallback: Vec3) -> Vec3
     ensures { result ≡ S.unit_or v fallback }
 {
-    let Direction::Unit(u) = unit_direction(v) else {
-        return fallback;
-    };
-    u
+    unit_direction(v).unwrap_or(fallback)
 }

@@ -2,7 +2,6 @@
 ghost use Rattle.std.specs.Prelude.{◌≡◌};
 ghost use Rattle.geometry.specs.Rigid as S;
 
-use crate::vector::{add, scale};
 use crate::{Rigid, Vec3};
 
 impl Rigid {
@@ -48,20 +47,14 @@ impl Rigid {
     pub fn map_direction(self, direction: Vec3) -> Vec3
         ensures { result ≡ S.map_direction self direction }
     {
-        add(
-            add(
-                scale(self.axis_x, direction.x),
-                scale(self.axis_y, direction.y),
-            ),
-            scale(self.axis_z, direction.z),
-        )
+        self.axis_x * direction.x + self.axis_y * direction.y + self.axis_z * direction.z
     }
 
     // A point of this frame, in the parent frame.
     pub fn map_point(self, point: Vec3) -> Vec3
         ensures { result ≡ S.map_point self point }
     {
-        add(self.origin, self.map_direction(point))
+        self.origin + self.map_direction(point)
     }
 
     // The placement back: orthonormal axes invert by transposition.

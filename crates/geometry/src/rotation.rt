@@ -3,9 +3,8 @@
 ghost use Rattle.std.specs.Prelude.{◌≡◌};
 ghost use Rattle.geometry.specs.Turn as S;
 
-use crate::vector::{add, cross, dot, scale, sub};
+use crate::vector::{cross, dot};
 use crate::{Turn, Vec3};
-use trig::PairAnswer;
 
 impl Turn {
     // By that many degrees, right-handed. Beyond 45,000 degrees, and for a NaN, it is no turn at all. No entry comes to
@@ -13,7 +12,7 @@ impl Turn {
     pub fn of(degrees: f64) -> Turn
         ensures { result ≡ S.turn_of degrees }
     {
-        let PairAnswer::Values(p) = trig::of_degrees(degrees) else {
+        let Some(p) = trig::of_degrees(degrees) else {
             return Turn {
                 sine: 0.0,
                 cosine: 1.0,
@@ -41,14 +40,11 @@ pub fn rotate_vector(axis: Vec3, v: Vec3, turn: Turn) -> Vec3
 {
     let along = dot(axis, v);
     let crossed = cross(axis, v);
-    add(
-        add(scale(v, turn.cosine), scale(crossed, turn.sine)),
-        scale(axis, along * (1.0 - turn.cosine)),
-    )
+    v * turn.cosine + crossed * turn.sine + axis * (along * (1.0 - turn.cosine))
 }
 
 pub fn rotate_point(axis: Vec3, pivot: Vec3, point: Vec3, turn: Turn) -> Vec3
     ensures { result ≡ S.rotate_point axis pivot point turn }
 {
-    add(pivot, rotate_vector(axis, sub(point, pivot), turn))
+    pivot + rotate_vector(axis, point - pivot, turn)
 }

@@ -3,22 +3,21 @@ ghost use Rattle.std.specs.Prelude.{◌≡◌};
 ghost use Rattle.geometry.specs.Slerp as S;
 
 use crate::normal::{unit_direction, unit_or};
-use crate::vector::{add, cross, dot, norm, scale};
-use crate::{Direction, Turn, Vec3};
-use trig::{Answer, PairAnswer};
+use crate::vector::{cross, dot, norm};
+use crate::{Turn, Vec3};
 
 // Between opposite axes: on the great circle toward +X, or toward +Y where `start` is along X.
 fn half_turn(start: Vec3, t: f64) -> Vec3
     ensures { result ≡ S.half_turn start t }
 {
     let helper = side_helper(start);
-    let Direction::Unit(side) = unit_direction(cross(start, helper)) else {
+    let Some(side) = unit_direction(cross(start, helper)) else {
         return start;
     };
-    let PairAnswer::Values(p) = trig::sine_cosine(t * 3.141592653589793) else {
+    let Some(p) = trig::sine_cosine(t * 3.141592653589793) else {
         return start;
     };
-    unit_or(add(scale(start, p.cosine), scale(side, p.sine)), start)
+    unit_or(start * p.cosine + side * p.sine, start)
 }
 
 fn side_helper(start: Vec3) -> Vec3
@@ -42,29 +41,24 @@ fn side_helper(start: Vec3) -> Vec3
 fn weighted(start: Vec3, end: Vec3, theta: f64, sin_theta: f64, t: f64) -> Vec3
     ensures { result ≡ S.weighted start end theta sin_theta t }
 {
-    let Answer::Value(first) = trig::sine((1.0 - t) * theta) else {
+    let Some(first) = trig::sine((1.0 - t) * theta) else {
         return start;
     };
-    let Answer::Value(second) = trig::sine(t * theta) else {
+    let Some(second) = trig::sine(t * theta) else {
         return start;
     };
-    unit_or(
-        add(
-            scale(start, first / sin_theta),
-            scale(end, second / sin_theta),
-        ),
-        start,
-    )
+    let between = start * (first / sin_theta) + end * (second / sin_theta);
+    unit_or(between, start)
 }
 
 // Of two unit axes with that cosine between them.
 fn slerp_cosine(start: Vec3, end: Vec3, cosine: f64, t: f64) -> Vec3
     ensures { result ≡ S.slerp_cosine start end cosine t }
 {
-    let Answer::Value(theta) = trig::arccosine(cosine) else {
+    let Some(theta) = trig::arccosine(cosine) else {
         return start;
     };
-    let Answer::Value(sin_theta) = trig::sine(theta) else {
+    let Some(sin_theta) = trig::sine(theta) else {
         return start;
     };
     if sin_theta <= 1e-12 {
@@ -80,10 +74,10 @@ fn slerp_cosine(start: Vec3, end: Vec3, cosine: f64, t: f64) -> Vec3
 pub fn slerp_axis(start: Vec3, end: Vec3, t: f64) -> Vec3
     ensures { result ≡ S.slerp_axis start end t }
 {
-    let Direction::Unit(first) = unit_direction(start) else {
+    let Some(first) = unit_direction(start) else {
         return end;
     };
-    let Direction::Unit(last) = unit_direction(end) else {
+    let Some(last) = unit_direction(end) else {
         return first;
     };
     let cosine = float::clamp_unit(dot(first, last));
@@ -94,15 +88,15 @@ pub fn slerp_axis(start: Vec3, end: Vec3, t: f64) -> Vec3
 pub fn angle_between_deg(left: Vec3, right: Vec3) -> f64
     ensures { result ≡ S.angle_between_deg left right }
 {
-    let Direction::Unit(a) = unit_direction(left) else {
+    let Some(a) = unit_direction(left) else {
         return 180.0;
     };
-    let Direction::Unit(b) = unit_direction(right) else {
+    let Some(b) = unit_direction(right) else {
         return 180.0;
     };
     let sine = norm(cross(a, b));
     let cosine = float::clamp_unit(dot(a, b));
-    let Answer::Value(radians) = trig::arctangent(sine, cosine) else {
+    let Some(radians) = trig::arctangent(sine, cosine) else {
         return 180.0;
     };
     float::size(float::to_degrees(radians))

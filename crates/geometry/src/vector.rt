@@ -3,34 +3,50 @@ ghost use Rattle.std.specs.Prelude.{◌≡◌};
 ghost use Rattle.geometry.specs.Vector as S;
 
 use crate::Vec3;
+use std::ops::{Add, Mul, Sub};
 
-pub fn add(a: Vec3, b: Vec3) -> Vec3
-    ensures { result ≡ S.add a b }
-{
-    Vec3 {
-        x: a.x + b.x,
-        y: a.y + b.y,
-        z: a.z + b.z,
+impl Add for Vec3 {
+    type Output = Vec3;
+
+    ghost add_gives = { λ a b sum. sum ≡ S.add a b };
+
+    #[tactic(auto, unfolding(crate::specs::Vector::add))]
+    fn add(self, other: Vec3) -> Vec3 {
+        Vec3 {
+            x: self.x + other.x,
+            y: self.y + other.y,
+            z: self.z + other.z,
+        }
     }
 }
 
-pub fn sub(a: Vec3, b: Vec3) -> Vec3
-    ensures { result ≡ S.sub a b }
-{
-    Vec3 {
-        x: a.x - b.x,
-        y: a.y - b.y,
-        z: a.z - b.z,
+impl Sub for Vec3 {
+    type Output = Vec3;
+
+    ghost sub_gives = { λ a b difference. difference ≡ S.sub a b };
+
+    #[tactic(auto, unfolding(crate::specs::Vector::sub))]
+    fn sub(self, other: Vec3) -> Vec3 {
+        Vec3 {
+            x: self.x - other.x,
+            y: self.y - other.y,
+            z: self.z - other.z,
+        }
     }
 }
 
-pub fn scale(a: Vec3, factor: f64) -> Vec3
-    ensures { result ≡ S.scale a factor }
-{
-    Vec3 {
-        x: a.x * factor,
-        y: a.y * factor,
-        z: a.z * factor,
+impl Mul<f64> for Vec3 {
+    type Output = Vec3;
+
+    ghost mul_gives = { λ a factor product. product ≡ S.scale a factor };
+
+    #[tactic(auto, unfolding(crate::specs::Vector::scale))]
+    fn mul(self, factor: f64) -> Vec3 {
+        Vec3 {
+            x: self.x * factor,
+            y: self.y * factor,
+            z: self.z * factor,
+        }
     }
 }
 
@@ -61,7 +77,7 @@ pub fn norm(v: Vec3) -> f64
 pub fn gap_vec(left: Vec3, right: Vec3) -> f64
     ensures { result ≡ S.gap_vec left right }
 {
-    norm(sub(left, right))
+    norm(left - right)
 }
 
 // The point at t on the way from left to right.

@@ -1,2 +1,3 @@
-// Halving, and everything that holds of it whatever is halved: the definition is in specs/, its laws are in proofs/. No code.
+// Halving, and everything that holds of it whatever is halved: the definition is in specs/, its laws are in proofs/. No
+// code.
 #![tactic(auto)]

@@ -1,44 +1,41 @@
 -- Every angle that `choose` answers is a double of at most 36,900 degrees (`chosen-angles`): so it is snapped to its nearest
 -- half degree (`chosen-nearest`), and no turn by a tooth is the fallback beyond 45,000 degrees.
-use Rattle.std.proofs.Common.{◌≡◌, ℕ, zero, suc, ◌-◌, T, List, [], ◌∷◌, ◌++◌, length, get_or, take, replicate, refl, subst, lit≤}
+use Rattle.std.proofs.Common.{◌≡◌, ℕ, zero, suc, T, List, [], ◌∷◌, get_or, refl, sym, subst, lit≤}
 use lib.Ieee as Ieee
 use lib.Ieee.{Float, binary64, fits}
 use lib.Ieee.Bits.{of_bits-fits}
 use lib.Ieee.Fits.{add-fits}
+use Rattle.std.specs.Prelude.{Err, None, Ok, Option, Result, Some}
+use Rattle.refusal.specs.declared.Refusal.{Refusal}
 use Rattle.lists.specs.Each.{Each}
-use Rattle.lists.specs.Padding.{padded}
 use Rattle.lists.specs.Search.{first_hit}
 use Rattle.lists.proofs.Each.{each_more, each_both, fold_keeps}
+use Rattle.lists.proofs.Library.{fold_is, find_or}
 use Rattle.float.specs.Helpers.{nought}
 use Rattle.float.proofs.UpTo.{UpTo, up_to_more, nought_up_to}
 use Rattle.trig.proofs.Choices.{chosen}
-use Rattle.geometry.specs.declared.Direction.{Direction}
-use Rattle.geometry.specs.declared.Direction.TheVariants.{Unit as Along, Nowhere}
 use Rattle.geometry.specs.declared.Vec3.{Vec3}
 use Rattle.geometry.specs.Direction.{unit_direction}
 use Rattle.geometry.specs.Vector.{plus}
-use Rattle.chain.specs.declared.Checked.{Checked}
+use Rattle.chain.specs.declared.RotaryLimits.{RotaryLimits}
+use Rattle.chain.specs.Checked.{Checked}
 use Rattle.chain.specs.declared.Joints.{Joints}
 use Rattle.chain.specs.declared.Kinematics.{Kinematics}
 use Rattle.chain.specs.declared.Prepared.{Prepared}
 use Rattle.chain.specs.declared.ToolPose.{ToolPose}
-use Rattle.chain.specs.declared.Travel.{Travel}
 use Rattle.chain.specs.Prepared.{prepared}
 use Rattle.inverse.specs.declared.Angles.{Angles}
 use Rattle.inverse.specs.declared.Best.{Best}
 use Rattle.inverse.specs.declared.Choice.{Choice}
 use Rattle.inverse.specs.declared.Choice.TheVariants.{Nearest, FirstPositive, FirstNegative}
-use Rattle.inverse.specs.declared.Chosen.{Chosen}
-use Rattle.inverse.specs.declared.Chosen.TheVariants.{At, Refused}
-use Rattle.inverse.specs.declared.RawAngles.{RawAngles}
-use Rattle.inverse.specs.declared.Solutions.{Solutions}
+use Rattle.arrayvec.specs.ArrayVec.{ArrayVec}
 use Rattle.inverse.specs.Wraps.{allowed, keep_allowed, angle_candidates, has, angles_of, add_pair, add_row, add_rows, add_raw, expand_wraps, second_travel}
-use Rattle.inverse.specs.Solutions.{precedes, insert, sorted, nowhere, filled, listed, no_solutions}
-use Rattle.inverse.specs.Inverse.{pose_at, misses, joints_at, reached, solutions, raw_angles, wrapped, solved_check, answered, solved, inverse_check, toward, unless_refused, inverse}
+use Rattle.inverse.specs.Solutions.{precedes, insert, sorted, nowhere, filled}
+use Rattle.inverse.specs.Inverse.{Answers, solutions_in, pose_at, misses, joints_at, reached, solutions, raw_angles, wrapped, solved_check, answered, solved, inverse_check, toward, unless_refused, inverse}
 use Rattle.inverse.specs.Choose as Choose
 use Rattle.inverse.specs.Choose.{best_of, nearer, nearest, first_suiting, suits, hint_of, picked, choose}
 use Rattle.inverse.proofs.AngleBounds.{PairUpTo, wrapped_within}
-use Rattle.inverse.proofs.AfterChecks.{FitAngles, hint_within_lem}
+use Rattle.inverse.proofs.AfterChecks.{FitAngles, checked_hint}
 use Rattle.hirth.specs.Snapping.{snapped, NearestTooth}
 use Rattle.hirth.proofs.HalfDegree.{nearest_tooth}
 
@@ -48,33 +45,16 @@ each_get P [] i d L D = D
 each_get P (x ∷ l) zero d L D = L.0
 each_get P (x ∷ l) (suc i) d L D = each_get P l i d L.1 D
 
-each_take : {A : Type 0} (P : A → Type 0) (n : ℕ) (l : List A) → Each P l → Each P (take n l)
-each_take P zero l L = tt
-each_take P (suc n) [] L = tt
-each_take P (suc n) (x ∷ l) L = (L.0, each_take P n l L.1)
-
-each_same : {A : Type 0} (P : A → Type 0) (n : ℕ) (x : A) → P x → Each P (replicate n x)
-each_same P zero x X = tt
-each_same P (suc n) x X = (X, each_same P n x X)
-
-each_append : {A : Type 0} (P : A → Type 0) (l m : List A) → Each P l → Each P m → Each P (l ++ m)
-each_append P [] m L M = M
-each_append P (x ∷ l) m L M = (L.0, each_append P l m L.1 M)
-
-each_padded : {A : Type 0} (P : A → Type 0) (n : ℕ) (x : A) (l : List A) → Each P l → P x → Each P (padded n x l)
-unfolding padded
-each_padded P n x l L X = each_append P l (replicate (n - length l) x) L (each_same P (n - length l) x X)
-
 -- ---- the pairs of angles: each angle is a sum, so a double
 abbrev Double : Float → Type 0
 Double x = T (fits binary64 x)
 
-keep_fits : (travel : Travel) (l : List Float) (angle turn : Float) → Each Double l → Each Double (keep_allowed travel l (plus angle turn))
+keep_fits : (travel : Option RotaryLimits) (l : List Float) (angle turn : Float) → Each Double l → Each Double (keep_allowed travel l (plus angle turn))
 unfolding keep_allowed
 keep_fits travel l angle turn L =
     chosen (Each Double) (allowed travel (plus angle turn)) _ _ (λ e. each_more Double l (plus angle turn) L (add-fits binary64 angle turn)) (λ e. L)
 
-candidates_fit : (angle : Float) (travel : Travel) → Each Double (angle_candidates angle travel)
+candidates_fit : (angle : Float) (travel : Option RotaryLimits) → Each Double (angle_candidates angle travel)
 unfolding angle_candidates
 candidates_fit angle travel =
     fold_keeps (Each Double) (λ turn. Unit {0}) _ (λ l turn L R. keep_fits travel l angle turn L) _ [] tt (tt, (tt, (tt, (tt, (tt, tt)))))
@@ -91,9 +71,9 @@ rows_fit : (first second : List Float) (l : List Angles) → Each Double first �
 unfolding add_rows
 rows_fit first second l F S L = fold_keeps (Each FitAngles) Double (add_row second) (λ m a0 M A. row_fits second m a0 S M A) first l L F
 
-raw_fits : (first second : Travel) (raw : RawAngles) (l : List Angles) → Each FitAngles l → Each FitAngles (add_raw first second raw l)
-raw_fits first second (RawAngles.At raw) l L = rows_fit _ _ l (candidates_fit raw.a0 first) (candidates_fit raw.a1 second) L
-raw_fits first second RawAngles.Nothing l L = L
+raw_fits : (first second : Option RotaryLimits) (raw : Option Angles) (l : List Angles) → Each FitAngles l → Each FitAngles (add_raw first second raw l)
+raw_fits first second (Some raw) l L = rows_fit _ _ l (candidates_fit raw.a0 first) (candidates_fit raw.a1 second) L
+raw_fits first second None l L = L
 
 wrapped_fits : (k : Kinematics) (target : Vec3) (hint : Angles) → Each FitAngles (wrapped k target hint)
 unfolding wrapped expand_wraps
@@ -133,41 +113,34 @@ unfolding sorted
 sorted_within l L = fold_keeps (Each Within) Within insert (λ m j M J. insert_within m j M J) l [] tt L
 
 -- ---- the answers of `inverse`, of which `choose` takes one
-none_within : Each Within no_solutions.items
-none_within = each_same Within 50 nowhere nowhere_within
+answered_within : (c : Checked) (s : ArrayVec Joints) → Each Within s.items → Each Within (solutions_in (answered c s))
+answered_within (Ok _) s S = S
+answered_within (Err r) s S = tt
 
-answered_within : (c : Checked) (s : Solutions) → Each Within s.items → Each Within (answered c s).solutions.items
-answered_within Checked.Passed s S = S
-answered_within (Checked.Refused r) s S = none_within
-
-solved_within : (k : Kinematics) (target tip : Vec3) (tool : Float) (hint : Angles) → PairUpTo 36000 hint → Each Within (solved k target tip tool hint).solutions.items
+solved_within : (k : Kinematics) (target tip : Vec3) (tool : Float) (hint : Angles) → PairUpTo 36000 hint → Each Within (solutions_in (solved k target tip tool hint))
 unfolding solved solutions
 solved_within k target tip tool hint H =
     let pairs = wrapped k target hint in
     let l = reached (prepared k) target tip tool pairs in
     answered_within (solved_check (raw_angles k target hint) pairs (sorted l)) (filled (sorted l))
-    (each_padded Within 50 nowhere (sorted l)
-    (sorted_within l (reached_within (prepared k) target tip tool pairs (each_both (PairUpTo 36900) FitAngles pairs (wrapped_within k target hint H) (wrapped_fits k target hint)))) nowhere_within)
+    (sorted_within l (reached_within (prepared k) target tip tool pairs (each_both (PairUpTo 36900) FitAngles pairs (wrapped_within k target hint H) (wrapped_fits k target hint))))
 
-toward_within : (d : Direction) (k : Kinematics) (tip : Vec3) (tool : Float) (hint : Angles) → PairUpTo 36000 hint → Each Within (toward d k tip tool hint).solutions.items
-toward_within (Along target) k tip tool hint H = solved_within k target tip tool hint H
-toward_within Nowhere k tip tool hint H = none_within
+toward_within : (d : Option Vec3) (k : Kinematics) (tip : Vec3) (tool : Float) (hint : Angles) → PairUpTo 36000 hint → Each Within (solutions_in (toward d k tip tool hint))
+toward_within (Some target) k tip tool hint H = solved_within k target tip tool hint H
+toward_within None k tip tool hint H = tt
 
-inverse_within : (k : Kinematics) (pose : ToolPose) (tool : Float) (hint : Angles) → FitAngles hint → Each Within (inverse k pose tool hint).solutions.items
+inverse_within : (k : Kinematics) (pose : ToolPose) (tool : Float) (hint : Angles) → FitAngles hint → Each Within (solutions_in (inverse k pose tool hint))
 unfolding inverse
 inverse_within k pose tool hint fit = go (inverse_check k pose tool hint) refl
   where
-    go : (c : Checked) → inverse_check k pose tool hint ≡ c → Each Within (unless_refused c (toward (unit_direction pose.axis) k pose.tip tool hint)).solutions.items
-    go Checked.Passed e = toward_within (unit_direction pose.axis) k pose.tip tool hint (hint_within_lem k pose tool hint e fit)
-    go (Checked.Refused r) e = none_within
+    go : (c : Checked) → inverse_check k pose tool hint ≡ c → Each Within (solutions_in (unless_refused c (toward (unit_direction pose.axis) k pose.tip tool hint)))
+    go (Ok _) e = toward_within (unit_direction pose.axis) k pose.tip tool hint (checked_hint k pose tool hint e fit)
+    go (Err r) e = tt
 
 -- ---- the choice
-module _ (s : Solutions) (S : Each Within s.items) where
+module _ (s : List Joints) (S : Each Within s) where
   first_within : Within (Choose.first s)
-  first_within = each_get Within s.items 0 nowhere S nowhere_within
-
-  listed_within : Each Within (listed s)
-  listed_within = each_take Within s.count s.items S
+  first_within = each_get Within s 0 nowhere S nowhere_within
 
   nearer_within : (preferred : Angles) (best : Best) (j : Joints) → Within best.joints → Within j → Within (nearer preferred best j).joints
   unfolding nearer best_of
@@ -177,31 +150,30 @@ module _ (s : Solutions) (S : Each Within s.items) where
   nearest_within : (preferred : Angles) → Within (nearest s preferred)
   unfolding nearest best_of
   nearest_within preferred =
-      fold_keeps (λ (b : Best). Within b.joints) Within (nearer preferred) (λ b j B J. nearer_within preferred b j B J) (listed s) (best_of preferred (Choose.first s)) first_within listed_within
+      subst (λ (b : Best). Within b.joints) (fold_is (nearer preferred) (best_of preferred (Choose.first s)) s)
+      (fold_keeps (λ (b : Best). Within b.joints) Within (nearer preferred) (λ b j B J. nearer_within preferred b j B J) s (best_of preferred (Choose.first s)) first_within S)
 
   suiting_within : (choice : Choice) → Within (first_suiting s choice)
   unfolding first_suiting
-  suiting_within choice = each_get Within (listed s) (first_hit (suits choice) (listed s)) (Choose.first s) listed_within first_within
+  suiting_within choice = subst Within (sym (find_or (suits choice) s (Choose.first s))) (each_get Within s (first_hit (suits choice) s) (Choose.first s) S first_within)
 
   picked_within : (choice : Choice) → Within (picked s choice)
   picked_within (Nearest a0 a1) = nearest_within (angles_of a0 a1)
   picked_within FirstPositive = suiting_within FirstPositive
   picked_within FirstNegative = suiting_within FirstNegative
 
-abbrev WithinAnswer : Chosen → Type 0
-WithinAnswer (At j) = Within j
-WithinAnswer (Refused r) = Unit {0}
+abbrev WithinAnswer : Result Joints Refusal → Type 0
+WithinAnswer (Ok j) = Within j
+WithinAnswer (Err r) = Unit {0}
 
-choice_within : (c : Checked) (j : Joints) → Within j → WithinAnswer (Choose.chosen c j)
-choice_within Checked.Passed j J = J
-choice_within (Checked.Refused r) j J = tt
+choice_within : (a : Answers) (choice : Choice) → Each Within (solutions_in a) → WithinAnswer (Choose.chosen a choice)
+choice_within (Ok s) choice S = picked_within s.items S choice
+choice_within (Err r) choice S = tt
 
-module _ (k : Kinematics) (pose : ToolPose) (tool : Float) (choice : Choice) (j : Joints) (fit : FitAngles (hint_of choice)) (e : choose k pose tool choice ≡ At j) where
+module _ (k : Kinematics) (pose : ToolPose) (tool : Float) (choice : Choice) (j : Joints) (fit : FitAngles (hint_of choice)) (e : choose k pose tool choice ≡ Ok j) where
   answer_within : WithinAnswer (choose k pose tool choice)
   unfolding choose
-  answer_within =
-      let a = inverse k pose tool (hint_of choice) in
-      choice_within a.checked (picked a.solutions choice) (picked_within a.solutions (inverse_within k pose tool (hint_of choice) fit) choice)
+  answer_within = choice_within (inverse k pose tool (hint_of choice)) choice (inverse_within k pose tool (hint_of choice) fit)
 
   pub chosen_angles : Within j
   chosen_angles = subst WithinAnswer e answer_within

@@ -138,15 +138,15 @@ tooth_forth Table angle = tooth_turn angle
 tooth_forth Head angle = still
 tooth_forth Absent angle = still
 
-swing_forth_lem : (m : Mount) (a : Float) → swing_from m (tooth_swing m a) ≡ tooth_forth m a
-swing_forth_lem Table a = tooth_back a
-swing_forth_lem Head a = refl
-swing_forth_lem Absent a = refl
+swing_forth : (m : Mount) (a : Float) → swing_from m (tooth_swing m a) ≡ tooth_forth m a
+swing_forth Table a = tooth_back a
+swing_forth Head a = refl
+swing_forth Absent a = refl
 
 pub position_forth : (p : Prepared) (angles : Angles) (tip tip0 : Vec3)
     → (joints_from p (tooth_turns p angles) angles tip tip0).xyz ≡ position p (record { first = tooth_forth p.first.mount angles.a0; second = tooth_forth p.second.mount angles.a1 }) tip tip0
 unfolding joints_from forth_from tooth_turns
-position_forth p angles tip tip0 = rw (swing_forth_lem p.first.mount angles.a0, swing_forth_lem p.second.mount angles.a1)
+position_forth p angles tip tip0 = rw (swing_forth p.first.mount angles.a0, swing_forth p.second.mount angles.a1)
 
 -- ---- never -0.0
 toward_sign : (t : Turn) (b : Bool) → T (fits binary64 t.sine) → T (fits binary64 t.cosine) → ((toward t b).sine ≡ neg nought → ⊥) × ((toward t b).cosine ≡ neg nought → ⊥)

@@ -1,12 +1,14 @@
 -- The positioning profile of a Hirth table. Each angle of the solution that `choose` gives goes to its nearest tooth; the
 -- position is worked out again by `inverse`'s steps, with the turns of the teeth; the limits are tested again, and the reached
 -- axis may differ from the wanted one by at most the tolerance. The order: 19, then all of `choose`, then 31.
-use Rattle.std.specs.Prelude.{Bool, cond, Float}
+use Rattle.std.specs.Prelude.{Bool, cond, Float, Err, Ok, Result}
 use Rattle.std.specs.Float.Ieee as Ieee
 use Rattle.geometry.specs.declared.Turn.{Turn}
 use Rattle.geometry.specs.declared.Vec3.{Vec3}
 use Rattle.geometry.specs.Slerp.{angle_between_deg}
-use Rattle.refusal.specs.Numbers.{refusal, tolerance, tooth_misses}
+use Rattle.refusal.specs.declared.Refusal.{Refusal}
+use Rattle.refusal.specs.Numbers.{refusal}
+use Rattle.refusal.specs.declared.Cause.{Cause}
 use Rattle.chain.specs.declared.Joints.{Joints}
 use Rattle.chain.specs.declared.Kinematics.{Kinematics}
 use Rattle.chain.specs.declared.Mount.{Mount}
@@ -18,8 +20,6 @@ use Rattle.chain.specs.Forward.{still}
 use Rattle.chain.specs.Prepared.{prepared}
 use Rattle.inverse.specs.declared.Angles.{Angles}
 use Rattle.inverse.specs.declared.Choice.{Choice}
-use Rattle.inverse.specs.declared.Chosen.{Chosen}
-use Rattle.inverse.specs.declared.Chosen.TheVariants.{At, Refused}
 use Rattle.inverse.specs.Choose.{choose}
 use Rattle.inverse.specs.Inverse.{pose_from, joints_from}
 use Rattle.path.specs.Unwinding.{inside}
@@ -58,22 +58,22 @@ abbrev pub holds_tolerance : Kinematics → ToolPose → Float → Float → Joi
 holds_tolerance k pose tool tol j = close (tooth_pose k tool j).axis pose.axis tol
 
 -- ---- the profile
-abbrev pub missed : Chosen
-missed = Refused (refusal tooth_misses 0)
+abbrev pub missed : Result Joints Refusal
+missed = Err (refusal Cause.ToothMisses 0)
 
-unfoldable pub limited : Kinematics → Joints → Chosen
-limited k j = cond (inside (bounds_of k) j) (At j) missed
+unfoldable pub limited : Kinematics → Joints → Result Joints Refusal
+limited k j = cond (inside (bounds_of k) j) (Ok j) missed
 
-unfoldable pub held : Kinematics → Vec3 → Float → Vec3 → Joints → Chosen
+unfoldable pub held : Kinematics → Vec3 → Float → Vec3 → Joints → Result Joints Refusal
 held k wanted tol axis j = cond (close axis wanted tol) (limited k j) missed
 
-unfoldable pub toothed : Kinematics → ToolPose → Float → Float → Joints → Chosen
+unfoldable pub toothed : Kinematics → ToolPose → Float → Float → Joints → Result Joints Refusal
 toothed k pose tool tol j = held k pose.axis tol (tooth_pose k tool j).axis (tooth_joints k pose tool j)
 
-abbrev pub after_choose : Kinematics → ToolPose → Float → Float → Chosen → Chosen
-after_choose k pose tool tol (At j) = toothed k pose tool tol j
-after_choose k pose tool tol (Refused r) = Refused r
+abbrev pub after_choose : Kinematics → ToolPose → Float → Float → Result Joints Refusal → Result Joints Refusal
+after_choose k pose tool tol (Ok j) = toothed k pose tool tol j
+after_choose k pose tool tol (Err r) = Err r
 
-unfoldable pub choose_tooth : Kinematics → ToolPose → Float → Choice → Float → Chosen
+unfoldable pub choose_tooth : Kinematics → ToolPose → Float → Choice → Float → Result Joints Refusal
 choose_tooth k pose tool choice tol =
-    cond (tolerance_good tol) (after_choose k pose tool tol (choose k pose tool choice)) (Refused (refusal tolerance 0))
+    cond (tolerance_good tol) (after_choose k pose tool tol (choose k pose tool choice)) (Err (refusal Cause.Tolerance 0))

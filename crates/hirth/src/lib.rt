@@ -1,5 +1,5 @@
-// Hirth tables, whose teeth stand half a degree apart. A solution that `choose` gives goes to its nearest teeth, and its
-// position is worked out again with sines and cosines from a table.
+// Hirth tables, whose teeth stand half a degree apart. A solution that `choose` gives goes to its nearest teeth, and
+// its position is worked out again with sines and cosines from a table.
 #![tactic(auto)]
 
 mod profile;

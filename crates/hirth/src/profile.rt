@@ -1,17 +1,15 @@
-// The positioning profile: a chosen solution on its teeth, with its position worked out again, within the limits and the
-// tolerance.
+// The positioning profile: a chosen solution on its teeth, with its position worked out again, within the limits and
+// the tolerance.
 ghost use Rattle.std.specs.Prelude.{◌≡◌};
-ghost use Rattle.path.specs.Posing.{bounds_of};
 ghost use Rattle.hirth.specs.Profile as S;
 ghost use Rattle.hirth.specs.Promise as Promise;
 
 use crate::snapping::snapped_angles;
 use crate::turning::{no_turn, tooth_turn};
-use chain::{Joints, Kinematics, Mount, Prepared, ToolPose, Turns};
+use chain::{Joints, Kinematics, Mount, Prepared, ToolPose, Turns, demand};
 use geometry::{Turn, Vec3};
-use inverse::{Angles, Choice, Chosen};
-use path::Bounds;
-use refusal::Refusal;
+use inverse::{Angles, Choice};
+use refusal::{Cause, Refusal};
 
 // How forward turns a rotary that stands on a tooth: a head by its angle, a table by the negated angle.
 fn tooth_swing(mount: Mount, angle: f64) -> Turn
@@ -25,6 +23,7 @@ fn tooth_swing(mount: Mount, angle: f64) -> Turn
 }
 
 // As chain's `turns_of`, from the table.
+#[tactic(auto, unfolding(crate::specs::Profile::tooth_turns))]
 fn tooth_turns(p: Prepared, angles: Angles) -> Turns
     ensures { result ≡ S.tooth_turns p angles }
 {
@@ -37,62 +36,47 @@ fn tooth_turns(p: Prepared, angles: Angles) -> Turns
     Turns { first, second }
 }
 
-fn bounds_of(k: Kinematics) -> Bounds
-    ensures { result ≡ bounds_of k }
-{
-    let first = k.first;
-    let second = k.second;
-    let outer = first.limits;
-    let inner = second.limits;
-    let two = k.count == 2;
-    Bounds {
-        two,
-        outer,
-        inner,
-        first_letter: first.letter,
-        second_letter: second.letter,
-    }
-}
-
+#[tactic(auto, unfolding(crate::specs::Profile::close))]
 fn close(axis: Vec3, wanted: Vec3, tolerance: f64) -> bool
     ensures { result ≡ S.close axis wanted tolerance }
 {
     geometry::angle_between_deg(axis, wanted) <= tolerance
 }
 
-fn missed() -> Chosen
-    ensures { result ≡ S.missed }
-{
-    Chosen::Refused(Refusal {
-        number: refusal::TOOTH_MISSES,
-        at: 0,
-        letter: 0,
-    })
-}
-
 // The limits again, of joints on their teeth.
-fn limited(k: Kinematics, j: Joints) -> Chosen
+#[tactic(auto, unfolding(crate::specs::Profile::limited))]
+fn limited(k: Kinematics, j: Joints) -> Result<Joints, Refusal>
     ensures { result ≡ S.limited k j }
 {
-    let bounds = bounds_of(k);
-    if path::inside(bounds, j) {
-        return Chosen::At(j);
-    }
-    missed()
+    let within = path::inside(path::bounds_of(k), j);
+    demand(within, Cause::ToothMisses, 0)?;
+    Ok(j)
 }
 
-// The joints on their teeth where the reached axis is within the tolerance and every rotary within its limits, else 31.
-fn held(k: Kinematics, wanted: Vec3, tolerance: f64, axis: Vec3, j: Joints) -> Chosen
+// The joints on their teeth where the reached axis is within the tolerance and every rotary within its limits, else
+// ToothMisses.
+#[tactic(auto, unfolding(crate::specs::Profile::held))]
+fn held(
+    k: Kinematics,
+    wanted: Vec3,
+    tolerance: f64,
+    axis: Vec3,
+    j: Joints,
+) -> Result<Joints, Refusal>
     ensures { result ≡ S.held k wanted tolerance axis j }
 {
-    if !close(axis, wanted, tolerance) {
-        return missed();
-    }
+    demand(close(axis, wanted, tolerance), Cause::ToothMisses, 0)?;
     limited(k, j)
 }
 
 // A chosen solution on its teeth: by the steps of `inverse` for a pair of angles, with the turns of the teeth.
-fn toothed(k: Kinematics, pose: ToolPose, tool_length: f64, tolerance: f64, j: Joints) -> Chosen
+fn toothed(
+    k: Kinematics,
+    pose: ToolPose,
+    tool_length: f64,
+    tolerance: f64,
+    j: Joints,
+) -> Result<Joints, Refusal>
     ensures { result ≡ S.toothed k pose tool_length tolerance j }
 {
     let p = chain::prepare(k);
@@ -103,27 +87,19 @@ fn toothed(k: Kinematics, pose: ToolPose, tool_length: f64, tolerance: f64, j: J
     held(k, pose.axis, tolerance, reached.axis, placed)
 }
 
-// One of the joint sets that reach the pose, on its teeth, or the first refusal: 19, then those of `choose`, then 31.
+// One of the joint sets that reach the pose, on its teeth, or the first refusal: Tolerance, then those of `choose`,
+// then ToothMisses.
 pub fn choose_tooth(
     k: Kinematics,
     pose: ToolPose,
     tool_length: f64,
     choice: Choice,
     tolerance: f64,
-) -> Chosen
+) -> Result<Joints, Refusal>
     ensures name { result ≡ S.choose_tooth k pose tool_length choice tolerance }
     ensures promised { Promise.Promised k pose tool_length choice tolerance result }
 {
-    if !divide::tolerance_good(tolerance) {
-        return Chosen::Refused(Refusal {
-            number: refusal::TOLERANCE,
-            at: 0,
-            letter: 0,
-        });
-    }
-    let chosen = inverse::choose(k, pose, tool_length, choice);
-    match chosen {
-        Chosen::At(j) => toothed(k, pose, tool_length, tolerance, j),
-        Chosen::Refused(r) => Chosen::Refused(r),
-    }
+    demand(divide::tolerance_good(tolerance), Cause::Tolerance, 0)?;
+    let j = inverse::choose(k, pose, tool_length, choice)?;
+    toothed(k, pose, tool_length, tolerance, j)
 }

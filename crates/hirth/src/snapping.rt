@@ -13,6 +13,7 @@ fn snap(angle: f64) -> f64
 }
 
 // Both angles of a solution. The unused angle of a chain of one rotary is +0.0, and stays.
+#[tactic(auto, unfolding(crate::specs::Snapping::snapped_angles))]
 pub fn snapped_angles(j: Joints) -> Angles
     ensures { result ≡ S.snapped_angles j }
 {

@@ -188,8 +188,8 @@ const TEETH: [u64; 181] = [
     4503599627370496,
 ];
 
-// The sine and the cosine of i half degrees, times 2^52: the entries i and 180 - i. Both are read here, so that the table is
-// at hand once for a rotary.
+// The sine and the cosine of i half degrees, times 2^52: the entries i and 180 - i. Both are read here, so that the
+// table is at hand once for a rotary.
 pub fn entries(i: usize) -> Entries
     requires { i < 181 }
     ensures name { result ≡ S.entries i }

@@ -14,6 +14,7 @@ fn unscaled(entry: u64) -> f64
 }
 
 // The sine of an angle and q quarter turns, from the angle's sine and cosine.
+#[tactic(auto, unfolding(crate::specs::Turning::quartered))]
 fn quartered(q: u64, sine: f64, cosine: f64) -> f64
     ensures { result ≡ S.quartered q sine cosine }
 {
@@ -44,6 +45,7 @@ fn half_turns(h: u64) -> Turn
 }
 
 // The turn, or the turn back where `below`, with no -0.0 in it.
+#[tactic(auto, unfolding(crate::specs::Turning::toward))]
 fn toward(t: Turn, below: bool) -> Turn
     ensures { result ≡ S.toward t below }
 {
@@ -68,8 +70,8 @@ pub fn no_turn() -> Turn
     }
 }
 
-// By an angle that stands on a tooth. Beyond 45,000 degrees, and for a NaN, it is no turn at all: no solution goes so far
-// (proofs/Chosen.antt).
+// By an angle that stands on a tooth. Beyond 45,000 degrees, and for a NaN, it is no turn at all: no solution goes so
+// far (proofs/Chosen.antt).
 pub fn tooth_turn(a: f64) -> Turn
     ensures { result ≡ S.tooth_turn a }
 {

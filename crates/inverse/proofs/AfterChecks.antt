@@ -4,12 +4,10 @@ use mathlib.Core.Path.{◌≡◌, refl}
 use mathlib.Core.Bool.{true, ◌&&◌, false≢true, and-eq-true_iff}
 use lib.Dec.{T}
 use lib.Ieee.{Float, binary64, fits}
-use Rattle.refusal.specs.Numbers.{tool_length, tool_axis_zero, not_finite, too_large}
+use Rattle.std.specs.Prelude.{None, Ok, Option, Some}
+use Rattle.refusal.specs.declared.Cause.{Cause}
 use Rattle.geometry.specs.declared.Vec3.{Vec3}
-use Rattle.geometry.specs.declared.Direction.{Direction}
-use Rattle.geometry.specs.declared.Direction.TheVariants.{Unit as UnitOf, Nowhere}
 use Rattle.geometry.specs.Direction.{all_finite, unit_direction}
-use Rattle.chain.specs.declared.Checked.TheVariants.{Passed}
 use Rattle.chain.specs.declared.Kinematics.{Kinematics}
 use Rattle.chain.specs.declared.ToolPose.{ToolPose}
 use Rattle.chain.specs.Check.{demand, chain_check, served, has_direction, within, all_within, chain_within, longest}
@@ -23,25 +21,25 @@ use Rattle.inverse.proofs.AngleBounds.{PairUpTo, hint_up_to}
 abbrev pub FitAngles : Angles → Type 0
 FitAngles a = T (fits binary64 a.a0) × T (fits binary64 a.a1)
 
-unit_in : (d : Direction) → served d ≡ true → (u : Vec3) × (d ≡ UnitOf u)
-unit_in (UnitOf u) h = (u, refl)
-unit_in Nowhere h = absurd (false≢true h)
+unit_in : (d : Option Vec3) → served d ≡ true → (u : Vec3) × (d ≡ Some u)
+unit_in (Some u) h = (u, refl)
+unit_in None h = absurd (false≢true h)
 
-module _ (k : Kinematics) (pose : ToolPose) (tool : Float) (hint : Angles) (passed : inverse_check k pose tool hint ≡ Passed) where
-  parts : SixPassed (demand (length_good tool) tool_length 0) (demand (has_direction pose.axis) tool_axis_zero 0) (chain_check k) (demand (all_finite pose.tip) not_finite 0) (demand (hint_finite hint) not_finite 0) (demand (inverse_sizes k pose.tip tool hint) too_large 0)
+module _ (k : Kinematics) (pose : ToolPose) (tool : Float) (hint : Angles) (passed : inverse_check k pose tool hint ≡ Ok tt) where
+  parts : SixPassed (demand (length_good tool) Cause.ToolLength 0) (demand (has_direction pose.axis) Cause.ToolAxisZero 0) (chain_check k) (demand (all_finite pose.tip) Cause.NotFinite 0) (demand (hint_finite hint) Cause.NotFinite 0) (demand (inverse_sizes k pose.tip tool hint) Cause.TooLarge 0)
   unfolding inverse_check
-  parts = six_passed (demand (length_good tool) tool_length 0) (demand (has_direction pose.axis) tool_axis_zero 0) (chain_check k) (demand (all_finite pose.tip) not_finite 0) (demand (hint_finite hint) not_finite 0) (demand (inverse_sizes k pose.tip tool hint) too_large 0) passed
+  parts = six_passed (demand (length_good tool) Cause.ToolLength 0) (demand (has_direction pose.axis) Cause.ToolAxisZero 0) (chain_check k) (demand (all_finite pose.tip) Cause.NotFinite 0) (demand (hint_finite hint) Cause.NotFinite 0) (demand (inverse_sizes k pose.tip tool hint) Cause.TooLarge 0) passed
 
-  pub chain_passed : chain_check k ≡ Passed
+  pub chain_passed : chain_check k ≡ Ok tt
   chain_passed = parts.third
 
-  pub axis_unit : (u : Vec3) × (unit_direction pose.axis ≡ UnitOf u)
+  pub axis_unit : (u : Vec3) × (unit_direction pose.axis ≡ Some u)
   unfolding has_direction
-  axis_unit = unit_in (unit_direction pose.axis) (demand_passed (has_direction pose.axis) tool_axis_zero 0 parts.second)
+  axis_unit = unit_in (unit_direction pose.axis) (demand_passed (has_direction pose.axis) Cause.ToolAxisZero 0 parts.second)
 
-  pub hint_within_lem : FitAngles hint → PairUpTo 36000 hint
+  pub checked_hint : FitAngles hint → PairUpTo 36000 hint
   unfolding inverse_sizes
-  hint_within_lem fit =
-      let sizes = demand_passed (inverse_sizes k pose.tip tool hint) too_large 0 parts.sixth in
+  checked_hint fit =
+      let sizes = demand_passed (inverse_sizes k pose.tip tool hint) Cause.TooLarge 0 parts.sixth in
       let first = (and-eq-true_iff (within tool longest && all_within pose.tip longest && hint_within hint) (chain_within k)).0 sizes in
       hint_up_to hint fit.0 fit.1 ((and-eq-true_iff (within tool longest && all_within pose.tip longest) (hint_within hint)).0 first.0).1

@@ -8,6 +8,7 @@ use Prim.Native.Nat.{ℕ, ◌*◌, ◌^◌, ◌≤◌}
 use lib.Dec.{T, lit≤, lit<}
 use lib.Ieee as Ieee
 use lib.Ieee.{Float, binary64, neg, of_bits, fits}
+use Rattle.std.specs.Prelude.{None, Option, Some}
 use Rattle.lists.specs.Each.{Each}
 use Rattle.lists.proofs.Each.{each_more, fold_keeps}
 use Rattle.float.specs.Units.{U}
@@ -15,18 +16,17 @@ use Rattle.float.specs.Helpers.{nought, one, size_of, clamp_unit}
 use Rattle.float.proofs.UpTo.{UpTo, up_to_more, up_to_neg, up_to_add, up_to_sub, up_to_mul, nought_up_to}
 use Rattle.float.proofs.Bounded.{one_small}
 use Rattle.trig.specs.Arctangent.{arctangent_of}
-use Rattle.trig.specs.declared.Answer.{Answer}
 use Rattle.trig.proofs.AngleDegrees.{degrees_up_to}
 use Rattle.trig.proofs.Choices.{chosen}
 use Rattle.geometry.specs.declared.Vec3.{Vec3}
 use Rattle.geometry.specs.Vector.{scale, dot, cross, norm, plus, minus, times, over}
 use Rattle.geometry.proofs.Range.{Turnable, up_to_turnable}
 use Rattle.geometry.proofs.FitVectors.{dot_fits}
+use Rattle.chain.specs.declared.RotaryLimits.{RotaryLimits}
 use Rattle.chain.specs.declared.Kinematics.{Kinematics}
 use Rattle.chain.specs.declared.Mount.{Mount}
 use Rattle.chain.specs.declared.Mount.TheVariants.{Table, Head, Absent}
 use Rattle.chain.specs.declared.Prepared.{Prepared}
-use Rattle.chain.specs.declared.Travel.{Travel}
 use Rattle.chain.specs.Prepared.{prepared}
 use Rattle.chain.proofs.NeverFallback.{within_up_to}
 use Rattle.inverse.specs.Subproblem.{gap_tolerance, shortest, square_part, fixed_at, turned_by, between_parts, sp1, both_solved, solved_pair, on_circle, sine_beside, both_points, in_frame, about_circle, through_point, beside, sp2, apply_angle}
@@ -36,13 +36,9 @@ use Rattle.inverse.specs.Wraps.{one_turn, two_turns, allowed, keep_allowed, angl
 use Rattle.inverse.specs.Inverse.{raw_angles, wrapped, hint_within}
 use Rattle.inverse.specs.declared.Angles.{Angles}
 use Rattle.inverse.specs.declared.AxisMap.{AxisMap}
-use Rattle.inverse.specs.declared.RawAngles.{RawAngles}
-use Rattle.inverse.specs.declared.RawAngles.TheVariants.{At, Nothing}
 use Rattle.inverse.specs.declared.RawPair.{RawPair}
-use Rattle.inverse.specs.declared.Solved.{Solved}
 use Rattle.inverse.specs.declared.SolvedAngle.{SolvedAngle}
 use Rattle.inverse.specs.declared.SolvedAngle.TheVariants.{Fixed, Free}
-use Rattle.inverse.specs.declared.SolvedPair.{SolvedPair}
 use Rattle.inverse.specs.declared.SolvedPairs.{SolvedPairs}
 
 -- ---- subproblem 1: a fixed angle is at most 180 degrees
@@ -50,43 +46,43 @@ abbrev pub FixedAngle : SolvedAngle → Type 0
 FixedAngle (Fixed angle) = UpTo 180 angle
 FixedAngle Free = Unit {0}
 
-abbrev pub FixedIn : Solved → Type 0
-FixedIn (Solved.Angle x) = FixedAngle x
-FixedIn Solved.Nothing = Unit {0}
+abbrev pub FixedIn : Option SolvedAngle → Type 0
+FixedIn (Some x) = FixedAngle x
+FixedIn None = Unit {0}
 
-turned_within_lem : (w u v : Vec3) → FixedIn (turned_by w u v)
+turned_by_fixed : (w u v : Vec3) → FixedIn (turned_by w u v)
 unfolding turned_by
-turned_within_lem w u v = go (arctangent_of (dot w (cross u v)) (dot u v)) refl
+turned_by_fixed w u v = go (arctangent_of (dot w (cross u v)) (dot u v)) refl
   where
-    go : (a : Answer) → arctangent_of (dot w (cross u v)) (dot u v) ≡ a → FixedIn (fixed_at a)
-    go (Answer.Value r) e = degrees_up_to (dot w (cross u v)) (dot u v) r (dot_fits w (cross u v)) (dot_fits u v) e
-    go Answer.OutOfRange e = tt
+    go : (a : Option Float) → arctangent_of (dot w (cross u v)) (dot u v) ≡ a → FixedIn (fixed_at a)
+    go (Some r) e = degrees_up_to (dot w (cross u v)) (dot u v) r (dot_fits w (cross u v)) (dot_fits u v) e
+    go None e = tt
 
 parts_within : (w u v : Vec3) → FixedIn (between_parts w u v)
 unfolding between_parts
 parts_within w u v =
     chosen FixedIn (Ieee.lt gap_tolerance (size_of (minus (norm u) (norm v)))) _ _ (λ e. tt)
-    (λ e. chosen FixedIn (Ieee.lt (norm u) shortest) _ _ (λ e. tt) (λ e. turned_within_lem w u v))
+    (λ e. chosen FixedIn (Ieee.lt (norm u) shortest) _ _ (λ e. tt) (λ e. turned_by_fixed w u v))
 
 pub sp1_within : (w u v : Vec3) → FixedIn (sp1 w u v)
 unfolding sp1
 sp1_within w u v = chosen FixedIn (Ieee.lt gap_tolerance (size_of (minus (dot w u) (dot w v)))) _ _ (λ e. tt) (λ e. parts_within w (square_part u w (dot w u)) (square_part v w (dot w v)))
 
-pub fixed_within : (w u v : Vec3) (angle : Float) → sp1 w u v ≡ Solved.Angle (Fixed angle) → UpTo 180 angle
+pub fixed_within : (w u v : Vec3) (angle : Float) → sp1 w u v ≡ Some (Fixed angle) → UpTo 180 angle
 fixed_within w u v angle e = subst FixedIn e (sp1_within w u v)
 
 -- ---- subproblem 2
-abbrev FixedPair : SolvedPair → Type 0
-FixedPair (SolvedPair.Angles x y) = FixedAngle x × FixedAngle y
-FixedPair SolvedPair.Nothing = Unit {0}
+abbrev FixedPair : Option (SolvedAngle × SolvedAngle) → Type 0
+FixedPair (Some (x, y)) = FixedAngle x × FixedAngle y
+FixedPair None = Unit {0}
 
 abbrev FixedPairs : SolvedPairs → Type 0
 FixedPairs p = FixedPair p.first × FixedPair p.second
 
-both_within : (y x : Solved) → FixedIn y → FixedIn x → FixedPair (both_solved y x)
-both_within (Solved.Angle y) (Solved.Angle x) p q = (q, p)
-both_within (Solved.Angle y) Solved.Nothing p q = tt
-both_within Solved.Nothing x p q = tt
+both_within : (y x : Option SolvedAngle) → FixedIn y → FixedIn x → FixedPair (both_solved y x)
+both_within (Some y) (Some x) p q = (q, p)
+both_within (Some y) None p q = tt
+both_within None x p q = tt
 
 pair_within : (wa wb p q c : Vec3) → FixedPair (solved_pair wa wb p q c)
 unfolding solved_pair
@@ -153,28 +149,28 @@ pub placed_up_to : (n : ℕ) (m : AxisMap) (x y : Float) → UpTo n x → UpTo n
 unfolding placed
 placed_up_to n m x y X Y = chosen (PairUpTo n) m.swapped _ _ (λ e. (Y, X)) (λ e. (X, Y))
 
-pub hint_x_lem : (n : ℕ) (m : AxisMap) (hint : Angles) → PairUpTo n hint → UpTo n (hint_x m hint)
+pub hint_x_up_to : (n : ℕ) (m : AxisMap) (hint : Angles) → PairUpTo n hint → UpTo n (hint_x m hint)
 unfolding hint_x
-hint_x_lem n m hint H = chosen (UpTo n) m.swapped _ _ (λ e. H.1) (λ e. H.0)
+hint_x_up_to n m hint H = chosen (UpTo n) m.swapped _ _ (λ e. H.1) (λ e. H.0)
 
-pub hint_y_lem : (n : ℕ) (m : AxisMap) (hint : Angles) → PairUpTo n hint → UpTo n (hint_y m hint)
+pub hint_y_up_to : (n : ℕ) (m : AxisMap) (hint : Angles) → PairUpTo n hint → UpTo n (hint_y m hint)
 unfolding hint_y
-hint_y_lem n m hint H = chosen (UpTo n) m.swapped _ _ (λ e. H.0) (λ e. H.1)
+hint_y_up_to n m hint H = chosen (UpTo n) m.swapped _ _ (λ e. H.0) (λ e. H.1)
 
 applied : (x : SolvedAngle) (sign hint : Float) → FixedAngle x → UpTo 1 sign → UpTo 36000 hint → UpTo 36180 (apply_angle x sign hint)
 applied (Fixed angle) sign hint X S H = up_to_more 180 36180 _ (lit≤ tt) (up_to_mul 1 180 sign angle (lit< tt) S X)
 applied Free sign hint X S H = up_to_more 36000 36180 hint (lit≤ tt) H
 
-abbrev pub RawUpTo : RawAngles → Type 0
-RawUpTo (At a) = PairUpTo 36180 a
-RawUpTo Nothing = Unit {0}
+abbrev pub RawUpTo : Option Angles → Type 0
+RawUpTo (Some a) = PairUpTo 36180 a
+RawUpTo None = Unit {0}
 
 abbrev pub RawsUpTo : RawPair → Type 0
 RawsUpTo r = RawUpTo r.first × RawUpTo r.second
 
-one_within : (a : Solved) (sign : Float) (hint : Angles) → FixedIn a → UpTo 1 sign → PairUpTo 36000 hint → RawUpTo (one_angle a sign hint)
-one_within (Solved.Angle x) sign hint A S H = (applied x sign hint.a0 A S H.0, up_to_more 0 36180 nought (lit≤ tt) nought_up_to)
-one_within Solved.Nothing sign hint A S H = tt
+one_within : (a : Option SolvedAngle) (sign : Float) (hint : Angles) → FixedIn a → UpTo 1 sign → PairUpTo 36000 hint → RawUpTo (one_angle a sign hint)
+one_within (Some x) sign hint A S H = (applied x sign hint.a0 A S H.0, up_to_more 0 36180 nought (lit≤ tt) nought_up_to)
+one_within None sign hint A S H = tt
 
 sigma_up_to : (m : AxisMap) → UpTo 1 (sigma_of m)
 unfolding sigma_of
@@ -184,8 +180,8 @@ module _ (m : AxisMap) (S : Signs m) (hint : Angles) (H : PairUpTo 36000 hint) w
   shared_within : (total sigma : Float) → UpTo 180 total → UpTo 1 sigma → PairUpTo 36180 (shared_turn m total sigma hint)
   unfolding shared_turn
   shared_within total sigma R G =
-      let x = hint_x_lem 36000 m hint H in
-      let y = hint_y_lem 36000 m hint H in
+      let x = hint_x_up_to 36000 m hint H in
+      let y = hint_y_up_to 36000 m hint H in
       chosen (PairUpTo 36180) m.inner_is_x _ _
       (λ e. placed_up_to 36180 m _ _ (up_to_more 36000 36180 _ (lit≤ tt) x)
       (up_to_mul 1 36180 _ _ (lit< tt) S.1 (up_to_mul 1 36180 _ _ (lit< tt) G (up_to_sub 180 36000 _ _ (lit< tt) R (up_to_mul 1 36000 _ _ (lit< tt) S.0 x)))))
@@ -193,16 +189,16 @@ module _ (m : AxisMap) (S : Signs m) (hint : Angles) (H : PairUpTo 36000 hint) w
       (up_to_mul 1 36180 _ _ (lit< tt) S.0 (up_to_sub 180 36000 _ _ (lit< tt) R (up_to_mul 1 36000 _ _ (lit< tt) G (up_to_mul 1 36000 _ _ (lit< tt) S.1 y))))
       (up_to_more 36000 36180 _ (lit≤ tt) y))
 
-  total_within : (a : Solved) → FixedIn a → RawUpTo (by_total m hint a)
-  total_within (Solved.Angle Free) A = (up_to_more 36000 36180 _ (lit≤ tt) H.0, up_to_more 36000 36180 _ (lit≤ tt) H.1)
-  total_within (Solved.Angle (Fixed turn)) A = shared_within turn (sigma_of m) A (sigma_up_to m)
-  total_within Solved.Nothing A = tt
+  total_within : (a : Option SolvedAngle) → FixedIn a → RawUpTo (by_total m hint a)
+  total_within (Some Free) A = (up_to_more 36000 36180 _ (lit≤ tt) H.0, up_to_more 36000 36180 _ (lit≤ tt) H.1)
+  total_within (Some (Fixed turn)) A = shared_within turn (sigma_of m) A (sigma_up_to m)
+  total_within None A = tt
 
-  pair_raw : (a : SolvedPair) → FixedPair a → RawUpTo (raw_of m a hint)
+  pair_raw : (a : Option (SolvedAngle × SolvedAngle)) → FixedPair a → RawUpTo (raw_of m a hint)
   unfolding angles
-  pair_raw (SolvedPair.Angles x y) A =
-      placed_up_to 36180 m _ _ (applied x m.x_sign (hint_x m hint) A.0 S.0 (hint_x_lem 36000 m hint H)) (applied y m.y_sign (hint_y m hint) A.1 S.1 (hint_y_lem 36000 m hint H))
-  pair_raw SolvedPair.Nothing A = tt
+  pair_raw (Some (x, y)) A =
+      placed_up_to 36180 m _ _ (applied x m.x_sign (hint_x m hint) A.0 S.0 (hint_x_up_to 36000 m hint H)) (applied y m.y_sign (hint_y m hint) A.1 S.1 (hint_y_up_to 36000 m hint H))
+  pair_raw None A = tt
 
   two_within : (spindle target : Vec3) → RawsUpTo (two_joint_angles m spindle target hint)
   unfolding two_joint_angles parallel_angles
@@ -225,24 +221,24 @@ raw_within p target hint H =
     (two_within (axis_map_of p) (axis_signs p) hint H p.spindle target)
 
 -- ---- whole turns
-keep_within : (travel : Travel) (l : List Float) (angle : Float) → Each (UpTo 36900) l → UpTo 36900 angle → Each (UpTo 36900) (keep_allowed travel l angle)
+keep_within : (travel : Option RotaryLimits) (l : List Float) (angle : Float) → Each (UpTo 36900) l → UpTo 36900 angle → Each (UpTo 36900) (keep_allowed travel l angle)
 unfolding keep_allowed
 keep_within travel l angle L A = chosen (Each (UpTo 36900)) (allowed travel angle) _ _ (λ e. each_more (UpTo 36900) l angle L A) (λ e. L)
 
-two_turns_lem : UpTo 720 two_turns
+two_turns_up_to : UpTo 720 two_turns
 unfolding of_bits U
-two_turns_lem = record { s = false; v = 720 * 2 ^ 1074; is = (refl, refl); most = lit≤ tt }
+two_turns_up_to = record { s = false; v = 720 * 2 ^ 1074; is = (refl, refl); most = lit≤ tt }
 
-one_turn_lem : UpTo 360 one_turn
+one_turn_up_to : UpTo 360 one_turn
 unfolding of_bits U
-one_turn_lem = record { s = false; v = 360 * 2 ^ 1074; is = (refl, refl); most = lit≤ tt }
+one_turn_up_to = record { s = false; v = 360 * 2 ^ 1074; is = (refl, refl); most = lit≤ tt }
 
-candidates_within : (angle : Float) (travel : Travel) → UpTo 36180 angle → Each (UpTo 36900) (angle_candidates angle travel)
+candidates_within : (angle : Float) (travel : Option RotaryLimits) → UpTo 36180 angle → Each (UpTo 36900) (angle_candidates angle travel)
 unfolding angle_candidates
 candidates_within angle travel A =
     fold_keeps (Each (UpTo 36900)) (UpTo 720) _ (λ l turn L R. keep_within travel l (plus angle turn) L (up_to_add 36180 720 angle turn (lit< tt) A R))
     _ [] tt
-    (up_to_neg 720 _ two_turns_lem, (up_to_neg 720 _ (up_to_more 360 720 _ (lit≤ tt) one_turn_lem), (up_to_more 0 720 _ (lit≤ tt) nought_up_to, (up_to_more 360 720 _ (lit≤ tt) one_turn_lem, (two_turns_lem, tt)))))
+    (up_to_neg 720 _ two_turns_up_to, (up_to_neg 720 _ (up_to_more 360 720 _ (lit≤ tt) one_turn_up_to), (up_to_more 0 720 _ (lit≤ tt) nought_up_to, (up_to_more 360 720 _ (lit≤ tt) one_turn_up_to, (two_turns_up_to, tt)))))
 
 pair_added : (a0 : Float) (l : List Angles) (a1 : Float) → UpTo 36900 a0 → Each (PairUpTo 36900) l → UpTo 36900 a1 → Each (PairUpTo 36900) (add_pair a0 l a1)
 unfolding add_pair
@@ -256,9 +252,9 @@ rows_added : (first second : List Float) (l : List Angles) → Each (UpTo 36900)
 unfolding add_rows
 rows_added first second l F S L = fold_keeps (Each (PairUpTo 36900)) (UpTo 36900) (add_row second) (λ m a0 M A. row_added second m a0 S M A) first l L F
 
-raw_added : (first second : Travel) (raw : RawAngles) (l : List Angles) → RawUpTo raw → Each (PairUpTo 36900) l → Each (PairUpTo 36900) (add_raw first second raw l)
-raw_added first second (At raw) l R L = rows_added _ _ l (candidates_within raw.a0 first R.0) (candidates_within raw.a1 second R.1) L
-raw_added first second Nothing l R L = L
+raw_added : (first second : Option RotaryLimits) (raw : Option Angles) (l : List Angles) → RawUpTo raw → Each (PairUpTo 36900) l → Each (PairUpTo 36900) (add_raw first second raw l)
+raw_added first second (Some raw) l R L = rows_added _ _ l (candidates_within raw.a0 first R.0) (candidates_within raw.a1 second R.1) L
+raw_added first second None l R L = L
 
 pub wrapped_within : (k : Kinematics) (target : Vec3) (hint : Angles) → PairUpTo 36000 hint → Each (PairUpTo 36900) (wrapped k target hint)
 unfolding wrapped expand_wraps raw_angles

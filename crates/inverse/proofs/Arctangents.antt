@@ -8,6 +8,7 @@ use lib.Dec.{lit≤}
 use lib.Ieee as Ieee
 use lib.Ieee.{Float, binary64, neg}
 use lib.Ieee.Fits.{mul-fits}
+use Rattle.std.specs.Prelude.{None, Ok, Option, Some}
 use Rattle.float.specs.Helpers.{nought, one, size_of, clamp_unit, to_degrees}
 use Rattle.float.proofs.Bounded as B
 use Rattle.float.proofs.Bounded.{Small, finite_small, small_neg, one_small, clamped_quotient, product_apart}
@@ -24,13 +25,12 @@ use Rattle.geometry.proofs.UnitSize.{unit_small}
 use Rattle.chain.specs.declared.Mount.{Mount}
 use Rattle.chain.specs.declared.Mount.TheVariants.{Table, Head, Absent}
 use Rattle.chain.specs.declared.Prepared.{Prepared}
-use Rattle.geometry.specs.declared.Direction.TheVariants.{Unit as UnitOf}
 use Rattle.geometry.specs.Direction.{unit_direction}
-use Rattle.chain.specs.declared.Checked.TheVariants.{Passed}
 use Rattle.chain.specs.declared.Kinematics.{Kinematics}
 use Rattle.chain.specs.Check.{chain_check}
 use Rattle.chain.specs.Prepared.{prepared}
 use Rattle.chain.proofs.UnitAxes.{FitAxes, SecondUnit, UnitChain, chain_units}
+use Rattle.inverse.specs.declared.SolvedAngle.{SolvedAngle}
 use Rattle.inverse.specs.Inverse.{raw_angles}
 use Rattle.inverse.specs.Subproblem.{gap_tolerance, shortest, square_part, fixed_at, turned_by, between_parts, sp1, both_solved, solved_pair, on_circle, one_pair, sine_beside, both_points, in_frame, about_circle, through_point, beside, sp2}
 use Rattle.inverse.specs.AxisMap.{map_of, axis_map_of}
@@ -38,10 +38,7 @@ use Rattle.inverse.specs.Orientation.{sign_of, one_angle, one_joint_angles, by_t
 use Rattle.inverse.specs.declared.Angles.{Angles}
 use Rattle.inverse.specs.declared.AxisMap.{AxisMap}
 use Rattle.inverse.specs.declared.RawPair.{RawPair}
-use Rattle.inverse.specs.declared.Solved.{Solved}
-use Rattle.inverse.specs.declared.Solved.TheVariants.{Angle, Nothing}
 use Rattle.inverse.specs.declared.SolvedAngle.TheVariants.{Fixed, Free}
-use Rattle.inverse.specs.declared.SolvedPair.{SolvedPair}
 use Rattle.inverse.specs.declared.SolvedPairs.{SolvedPairs}
 
 cond_same : {A : Type 0} (b : Bool) (x x' y y' : A) → (b ≡ true → x ≡ x') → (b ≡ false → y ≡ y') → cond b x y ≡ cond b x' y'
@@ -49,14 +46,14 @@ cond_same true x x' y y' f g = f refl
 cond_same false x x' y y' f g = g refl
 
 -- ---- subproblem 1 without the fallback
-abbrev plain_fixed : Vec3 → Vec3 → Vec3 → Solved
-plain_fixed w u v = Angle (Fixed (to_degrees (angle_float (dot w (cross u v)) (dot u v))))
+abbrev plain_fixed : Vec3 → Vec3 → Vec3 → Option SolvedAngle
+plain_fixed w u v = Some (Fixed (to_degrees (angle_float (dot w (cross u v)) (dot u v))))
 
-abbrev plain_parts : Vec3 → Vec3 → Vec3 → Solved
-plain_parts w u v = cond (Ieee.lt gap_tolerance (size_of (minus (norm u) (norm v)))) Nothing (cond (Ieee.lt (norm u) shortest) (Angle Free) (plain_fixed w u v))
+abbrev plain_parts : Vec3 → Vec3 → Vec3 → Option SolvedAngle
+plain_parts w u v = cond (Ieee.lt gap_tolerance (size_of (minus (norm u) (norm v)))) None (cond (Ieee.lt (norm u) shortest) (Some Free) (plain_fixed w u v))
 
-unfoldable pub plain_sp1 : Vec3 → Vec3 → Vec3 → Solved
-plain_sp1 w u v = cond (Ieee.lt gap_tolerance (size_of (minus (dot w u) (dot w v)))) Nothing (plain_parts w (square_part u w (dot w u)) (square_part v w (dot w v)))
+unfoldable pub plain_sp1 : Vec3 → Vec3 → Vec3 → Option SolvedAngle
+plain_sp1 w u v = cond (Ieee.lt gap_tolerance (size_of (minus (dot w u) (dot w v)))) None (plain_parts w (square_part u w (dot w u)) (square_part v w (dot w v)))
 
 square_small : (k n : ℕ) (w v : Vec3) → k + 10 ≤ n → n ≤ 900 → SmallVec 1 w → SmallVec k v → SmallVec n (square_part v w (dot w v))
 unfolding square_part
@@ -76,14 +73,14 @@ unfolding sp1 between_parts plain_sp1
 sp1_plain w u v W P Q =
     let u' = square_part u w (dot w u) in
     let v' = square_part v w (dot w v) in
-    ap (λ (s : Solved). cond (Ieee.lt gap_tolerance (size_of (minus (dot w u) (dot w v)))) Nothing (cond (Ieee.lt gap_tolerance (size_of (minus (norm u') (norm v')))) Nothing (cond (Ieee.lt (norm u') shortest) (Angle Free) s)))
+    ap (λ (s : Option SolvedAngle). cond (Ieee.lt gap_tolerance (size_of (minus (dot w u) (dot w v)))) None (cond (Ieee.lt gap_tolerance (size_of (minus (norm u') (norm v')))) None (cond (Ieee.lt (norm u') shortest) (Some Free) s)))
     (turned_plain w u' v' W (square_small 300 310 w u (lit≤ tt) (lit≤ tt) W P) (square_small 300 310 w v (lit≤ tt) (lit≤ tt) W Q))
 
 -- ---- subproblem 2 over any subproblem 1
 abbrev pub Sub1 : Type 0
-Sub1 = Vec3 → Vec3 → Vec3 → Solved
+Sub1 = Vec3 → Vec3 → Vec3 → Option SolvedAngle
 
-unfoldable pub pair_with : Sub1 → Vec3 → Vec3 → Vec3 → Vec3 → Vec3 → SolvedPair
+unfoldable pub pair_with : Sub1 → Vec3 → Vec3 → Vec3 → Vec3 → Vec3 → Option (SolvedAngle × SolvedAngle)
 pair_with s wa wb p q c = both_solved (s wb p c) (s wa c q)
 
 unfoldable pub points_with : Sub1 → Vec3 → Vec3 → Vec3 → Vec3 → Vec3 → Vec3 → Float → Float → Float → SolvedPairs
@@ -97,12 +94,12 @@ points_with s wa wb p q e1 e2 cosine qa rho =
 
 unfoldable pub frame_with : Sub1 → Vec3 → Vec3 → Vec3 → Vec3 → Vec3 → Float → Float → Float → SolvedPairs
 frame_with s wa wb p q e1 cosine qa rho =
-    cond (Ieee.le (norm (cross wa e1)) shortest) (one_pair SolvedPair.Nothing)
+    cond (Ieee.le (norm (cross wa e1)) shortest) (one_pair None)
     (points_with s wa wb p q e1 (scale (cross wa e1) (over one (norm (cross wa e1)))) cosine qa rho)
 
 unfoldable pub circle_with : Sub1 → Vec3 → Vec3 → Vec3 → Vec3 → Vec3 → Float → Float → Float → SolvedPairs
 circle_with s wa wb p q e1 cosine qa rho =
-    cond (Ieee.lt (plus one gap_tolerance) (size_of cosine)) (one_pair SolvedPair.Nothing) (frame_with s wa wb p q e1 (clamp_unit cosine) qa rho)
+    cond (Ieee.lt (plus one gap_tolerance) (size_of cosine)) (one_pair None) (frame_with s wa wb p q e1 (clamp_unit cosine) qa rho)
 
 unfoldable pub through_with : Sub1 → Vec3 → Vec3 → Vec3 → Vec3 → Vec3 → Float → Float → Float → Float → SolvedPairs
 through_with s wa wb p q wbPerp wbLen d qa rho =
@@ -111,7 +108,7 @@ through_with s wa wb p q wbPerp wbLen d qa rho =
 
 unfoldable pub sp2_with : Sub1 → Vec3 → Vec3 → Vec3 → Vec3 → SolvedPairs
 sp2_with s wa wb p q =
-    cond (Ieee.le (norm (square_part wb wa (dot wa wb))) shortest) (one_pair SolvedPair.Nothing)
+    cond (Ieee.le (norm (square_part wb wa (dot wa wb))) shortest) (one_pair None)
     (through_with s wa wb p q (square_part wb wa (dot wa wb)) (norm (square_part wb wa (dot wa wb))) (dot wa wb) (dot wa q) (norm (square_part q wa (dot wa q))))
 
 pub sp2_is : (wa wb p q : Vec3) → sp2_with sp1 wa wb p q ≡ sp2 wa wb p q
@@ -128,8 +125,8 @@ module _ (wa wb p q : Vec3) (WA : SmallVec 1 wa) (Wb : SmallVec 1 wb) (P : Small
   pair_same : (c : Vec3) → SmallVec 300 c → pair_with sp1 wa wb p q c ≡ pair_with plain_sp1 wa wb p q c
   unfolding pair_with
   pair_same c C =
-      ap (λ (s : Solved). both_solved s (sp1 wa c q)) (sp1_plain wb p c Wb (vec_raise 1 300 p (lit≤ tt) P) C)
-      ∙ ap (λ (s : Solved). both_solved (plain_sp1 wb p c) s) (sp1_plain wa c q WA C (vec_raise 1 300 q (lit≤ tt) Q))
+      ap (λ (s : Option SolvedAngle). both_solved s (sp1 wa c q)) (sp1_plain wb p c Wb (vec_raise 1 300 p (lit≤ tt) P) C)
+      ∙ ap (λ (s : Option SolvedAngle). both_solved (plain_sp1 wb p c) s) (sp1_plain wa c q WA C (vec_raise 1 300 q (lit≤ tt) Q))
 
   circle_small : (qa rho : Float) (e1 e2 : Vec3) (cosine sine : Float) → Small 7 qa → Small 100 rho → SmallVec 43 e1 → SmallVec 79 e2 → Small 0 cosine → Small 101 sine → SmallVec 300 (on_circle wa qa rho e1 e2 cosine sine)
   unfolding on_circle
@@ -145,8 +142,8 @@ module _ (wa wb p q : Vec3) (WA : SmallVec 1 wa) (Wb : SmallVec 1 wb) (P : Small
       let up = pair_same (on_circle wa qa rho e1 e2 cosine (times one (sine_beside cosine))) (circle_small qa rho e1 e2 cosine _ A R E F C (B.times 0 100 101 one (sine_beside cosine) (lit≤ tt) (lit≤ tt) one_small s)) in
       let down = pair_same (on_circle wa qa rho e1 e2 cosine (times (Ieee.neg one) (sine_beside cosine))) (circle_small qa rho e1 e2 cosine _ A R E F C (B.times 0 100 101 (neg one) (sine_beside cosine) (lit≤ tt) (lit≤ tt) (small_neg 0 one one_small) s)) in
       cond_same (Ieee.le (sine_beside cosine) shortest) _ _ _ _ (λ h. ap one_pair up)
-      (λ h. ap (λ (x : SolvedPair). record { first = x; second = pair_with sp1 wa wb p q (on_circle wa qa rho e1 e2 cosine (times (Ieee.neg one) (sine_beside cosine))) }) up
-      ∙ ap (λ (y : SolvedPair). record { first = pair_with plain_sp1 wa wb p q (on_circle wa qa rho e1 e2 cosine (times one (sine_beside cosine))); second = y }) down)
+      (λ h. ap (λ (x : Option (SolvedAngle × SolvedAngle)). record { first = x; second = pair_with sp1 wa wb p q (on_circle wa qa rho e1 e2 cosine (times (Ieee.neg one) (sine_beside cosine))) }) up
+      ∙ ap (λ (y : Option (SolvedAngle × SolvedAngle)). record { first = pair_with plain_sp1 wa wb p q (on_circle wa qa rho e1 e2 cosine (times one (sine_beside cosine))); second = y }) down)
 
   frame_same : (e1 : Vec3) (cosine qa rho : Float) → SmallVec 43 e1 → Small 0 cosine → Small 7 qa → Small 100 rho → frame_with sp1 wa wb p q e1 cosine qa rho ≡ frame_with plain_sp1 wa wb p q e1 cosine qa rho
   unfolding frame_with
@@ -238,7 +235,7 @@ two_same : (m : AxisMap) (spindle target : Vec3) (hint : Angles) → SmallVec 1 
 unfolding two_with
 two_same m spindle target hint WA Wb S T =
     cond_same (Ieee.lt (norm (cross m.wa m.wb)) shortest) _ _ _ _
-    (λ h. ap (λ (s : Solved). one_raw (by_total m hint s)) (sp1_plain m.wa spindle target WA (vec_raise 1 300 spindle (lit≤ tt) S) (vec_raise 1 300 target (lit≤ tt) T)))
+    (λ h. ap (λ (s : Option SolvedAngle). one_raw (by_total m hint s)) (sp1_plain m.wa spindle target WA (vec_raise 1 300 spindle (lit≤ tt) S) (vec_raise 1 300 target (lit≤ tt) T)))
     (λ h. ap (λ (s : SolvedPairs). raw_pair m s hint) (sp2_same m.wa m.wb spindle target WA Wb S T))
 
 by_count : (m : Mount) (v : Vec3) (single single' both both' : RawPair) → SecondUnit m v → single ≡ single' → (SmallVec 1 v → both ≡ both') → counted_raw m single both ≡ counted_raw m single' both'
@@ -250,7 +247,7 @@ orientation_same : (p : Prepared) (target : Vec3) (hint : Angles) → UnitChain 
 unfolding orientation_with
 orientation_same p target hint C T =
     by_count p.second.mount p.second.axis _ _ _ _ C.second
-    (ap (λ (s : Solved). one_raw (one_angle s (sign_of p.first.mount) hint)) (sp1_plain p.first.axis p.spindle target C.first.small (vec_raise 1 300 p.spindle (lit≤ tt) C.spindle.small) (vec_raise 1 300 target (lit≤ tt) T)))
+    (ap (λ (s : Option SolvedAngle). one_raw (one_angle s (sign_of p.first.mount) hint)) (sp1_plain p.first.axis p.spindle target C.first.small (vec_raise 1 300 p.spindle (lit≤ tt) C.spindle.small) (vec_raise 1 300 target (lit≤ tt) T)))
     (λ S. let m = axis_units p C.first.small S in two_same (axis_map_of p) p.spindle target hint m.0 m.1 C.spindle.small T)
 
 -- the raw angles of a unit target: `fixed_at OutOfRange` is not among what they are made of
@@ -258,6 +255,6 @@ pub orientation_plain : (p : Prepared) (target : Vec3) (hint : Angles) → UnitC
 orientation_plain p target hint C T = sym (orientation_is p target hint) ∙ orientation_same p target hint C T
 
 -- ---- inverse: the target is the unit vector of the pose's axis
-pub raw_plain : (k : Kinematics) → FitAxes k → chain_check k ≡ Passed → (axis target : Vec3) → FitVec axis → unit_direction axis ≡ UnitOf target → (hint : Angles) → raw_angles k target hint ≡ orientation_with plain_sp1 (prepared k) target hint
+pub raw_plain : (k : Kinematics) → FitAxes k → chain_check k ≡ Ok tt → (axis target : Vec3) → FitVec axis → unit_direction axis ≡ Some target → (hint : Angles) → raw_angles k target hint ≡ orientation_with plain_sp1 (prepared k) target hint
 unfolding raw_angles
 raw_plain k F passed axis target A d hint = orientation_plain (prepared k) target hint (chain_units k F passed) (unit_small axis target A d)

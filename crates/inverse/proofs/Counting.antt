@@ -7,15 +7,14 @@ use mathlib.Core.Bool.{Bool, true, false, cond}
 use mathlib.Core.List.{List, [], ◌∷◌, ◌++◌}
 use lib.ListN.{length, length-append}
 use lib.Ieee.{Float}
+use Rattle.std.specs.Prelude.{None, Option, Some}
 use Rattle.lists.specs.Fold.{fold}
 use Rattle.geometry.specs.declared.Vec3.{Vec3}
 use Rattle.geometry.specs.Vector.{plus}
+use Rattle.chain.specs.declared.RotaryLimits.{RotaryLimits}
 use Rattle.chain.specs.declared.Joints.{Joints}
 use Rattle.chain.specs.declared.Prepared.{Prepared}
-use Rattle.chain.specs.declared.Travel.{Travel}
 use Rattle.inverse.specs.declared.Angles.{Angles}
-use Rattle.inverse.specs.declared.RawAngles.{RawAngles}
-use Rattle.inverse.specs.declared.RawAngles.TheVariants.{At, Nothing}
 use Rattle.inverse.specs.declared.RawPair.{RawPair}
 use Rattle.inverse.specs.Wraps.{allowed, keep_allowed, angle_candidates, angles_of, has, add_pair, add_row, add_rows, add_raw, expand_wraps}
 use Rattle.inverse.specs.Solutions.{insert, sorted}
@@ -38,7 +37,7 @@ pushed_or_not true l x = let e = length-append l (x ∷ []) in (omega arith, ome
 pushed_or_not false l x = let e = length-append l (x ∷ []) in (omega arith, omega arith)
 
 -- ---- the wraps
-candidates_five : (angle : Float) (travel : Travel) → length (angle_candidates angle travel) ≤ 5
+candidates_five : (angle : Float) (travel : Option RotaryLimits) → length (angle_candidates angle travel) ≤ 5
 unfolding angle_candidates keep_allowed
 candidates_five angle travel = fold_grows _ 1 (λ s turn. (pushed_or_not (allowed travel (plus angle turn)) s (plus angle turn)).0) _ []
 
@@ -50,11 +49,11 @@ rows_most : (first second : List Float) (l : List Angles) → length first ≤ 5
 unfolding add_rows
 rows_most first second l p q = let g = fold_grows (add_row second) 5 (row_five second q) first l in omega arith
 
-raw_most : (first second : Travel) (raw : RawAngles) (l : List Angles) → length (add_raw first second raw l) ≤ length l + 25
-raw_most first second (At raw) l = rows_most _ _ l (candidates_five raw.a0 first) (candidates_five raw.a1 second)
-raw_most first second Nothing l = omega arith
+raw_most : (first second : Option RotaryLimits) (raw : Option Angles) (l : List Angles) → length (add_raw first second raw l) ≤ length l + 25
+raw_most first second (Some raw) l = rows_most _ _ l (candidates_five raw.a0 first) (candidates_five raw.a1 second)
+raw_most first second None l = omega arith
 
-pub wraps_fifty : (first second : Travel) (raw : RawPair) → length (expand_wraps first second raw) ≤ 50
+pub wraps_fifty : (first second : Option RotaryLimits) (raw : RawPair) → length (expand_wraps first second raw) ≤ 50
 unfolding expand_wraps
 wraps_fifty first second raw =
     let g = raw_most first second raw.first [] in
@@ -71,15 +70,15 @@ fold_counts (j ∷ l) done =
     omega arith
 
 module _ (p : Prepared) (target tip : Vec3) (tool : Float) where
-  reached_by_lem : (b : Bool) (j : Joints) (l : List Joints) (n : ℕ) → length l ≤ n → length (cond b l (j ∷ l)) ≤ suc n
-  reached_by_lem true j l n h = omega arith
-  reached_by_lem false j l n h = omega arith
+  reached_by_length : (b : Bool) (j : Joints) (l : List Joints) (n : ℕ) → length l ≤ n → length (cond b l (j ∷ l)) ≤ suc n
+  reached_by_length true j l n h = omega arith
+  reached_by_length false j l n h = omega arith
 
   reached_most : (l : List Angles) → length (reached p target tip tool l) ≤ length l
   unfolding reached
   reached_most [] = omega arith
   reached_most (a ∷ l) =
-      reached_by_lem (misses (pose_at p a tool).axis target) (joints_at p a tip (pose_at p a tool).tip) (reached p target tip tool l) (length l) (reached_most l)
+      reached_by_length (misses (pose_at p a tool).axis target) (joints_at p a tip (pose_at p a tool).tip) (reached p target tip tool l) (length l) (reached_most l)
 
   pub solutions_most : (l : List Angles) → length (solutions p target tip tool l) ≤ length l
   unfolding solutions sorted

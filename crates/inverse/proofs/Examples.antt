@@ -4,10 +4,10 @@ use mathlib.Core.List.{[], ◌∷◌}
 use lib.IntN.{pos, negsuc}
 use lib.Ieee as Ieee
 use lib.Ieee.{binary64, of_bits, of_int, mul, neg, add, lt, le}
+use Rattle.std.specs.Prelude.{None}
 use Rattle.lists.specs.Fold.{fold}
 use Rattle.float.specs.Helpers.{nought}
 use Rattle.geometry.specs.Vector.{times}
-use Rattle.chain.specs.declared.Travel.TheVariants.{Unlimited}
 use Rattle.inverse.specs.Wraps.{one_turn, whole_turns, principal, keep_allowed, angle_candidates}
 
 turns_are :
@@ -17,10 +17,10 @@ unfolding mul of_bits of_int neg
 turns_are = refl
 
 -- a raw -0.0 becomes +0.0, and the unused angle stays +0.0
-minus_zero : angle_candidates (Ieee.neg nought) Unlimited ≡ nought ∷ []
+minus_zero : angle_candidates (Ieee.neg nought) None ≡ nought ∷ []
 unfolding angle_candidates keep_allowed principal fold add lt le of_bits neg
 minus_zero = refl
 
-unused : angle_candidates nought Unlimited ≡ nought ∷ []
+unused : angle_candidates nought None ≡ nought ∷ []
 unfolding angle_candidates keep_allowed principal fold add lt le of_bits neg
 unused = refl

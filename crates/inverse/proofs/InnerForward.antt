@@ -6,11 +6,13 @@ use mathlib.Core.Path.{◌≡◌, sym, ap, ◌∙◌}
 use mathlib.Core.Bool.{cond, ◌&&◌}
 use lib.Ieee.{Float}
 use lib.Ieee.Scale.{finite}
-use Rattle.refusal.specs.Numbers.{refusal, not_finite}
+use Rattle.std.specs.Prelude.{Err, Ok, Result}
+use Rattle.refusal.specs.declared.Refusal.{Refusal}
+use Rattle.refusal.specs.Numbers.{refusal}
+use Rattle.refusal.specs.declared.Cause.{Cause}
 use Rattle.geometry.specs.declared.Vec3.{Vec3}
+use Rattle.chain.specs.declared.ToolPose.{ToolPose}
 use Rattle.chain.specs.declared.Joints.{Joints}
-use Rattle.chain.specs.declared.Posed.{Posed}
-use Rattle.chain.specs.declared.Posed.TheVariants.{At, Refused}
 use Rattle.chain.specs.declared.Prepared.{Prepared}
 use Rattle.chain.specs.declared.Turns.{Turns}
 use Rattle.chain.specs.Forward.{turns_of, reach, forward_core, posed, position}
@@ -21,12 +23,12 @@ use Rattle.inverse.specs.Inverse.{joints_at}
 use Rattle.inverse.specs.declared.Angles.{Angles}
 use Rattle.inverse.proofs.AngleBounds.{BothTurnable}
 
-unfoldable pub inner_forward : Prepared → Angles → Vec3 → Float → Posed
-inner_forward p a xyz tool = cond (finite a.a0 && finite a.a1) (posed (reach p (plain_turns p a.a0 a.a1) xyz tool)) (Refused (refusal not_finite 0))
+unfoldable pub inner_forward : Prepared → Angles → Vec3 → Float → Result ToolPose Refusal
+inner_forward p a xyz tool = cond (finite a.a0 && finite a.a1) (posed (reach p (plain_turns p a.a0 a.a1) xyz tool)) (Err (refusal Cause.NotFinite 0))
 
-pub inner_forward_lem : (p : Prepared) → UnitChain p → (a : Angles) → BothTurnable a → (xyz : Vec3) (tool : Float) → inner_forward p a xyz tool ≡ At (forward_core p (turns_of p a.a0 a.a1) xyz tool)
+pub inner_forward_is : (p : Prepared) → UnitChain p → (a : Angles) → BothTurnable a → (xyz : Vec3) (tool : Float) → inner_forward p a xyz tool ≡ Ok (forward_core p (turns_of p a.a0 a.a1) xyz tool)
 unfolding inner_forward
-inner_forward_lem p C a A xyz tool =
+inner_forward_is p C a A xyz tool =
     rw (A.0.number, A.1.number)
     (ap (λ (t : Turns). posed (reach p t xyz tool)) (sym (turns_plain p a.a0 a.a1 A.0 A.1)) ∙ core_served p C a.a0 a.a1 xyz tool)
 

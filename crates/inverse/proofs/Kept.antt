@@ -3,15 +3,14 @@ use mathlib.Core.Path.{◌≡◌, refl}
 use mathlib.Core.Bool.{Bool, true, false, ◌&&◌, cond, and-eq-true_iff}
 use mathlib.Core.List.{List, [], ◌∷◌, ◌++◌}
 use lib.Ieee.{Float}
+use Rattle.std.specs.Prelude.{None, Option, Some}
 use Rattle.lists.specs.Fold.{fold}
 use Rattle.lists.specs.Search.{all}
 use Rattle.geometry.specs.declared.Vec3.{Vec3}
+use Rattle.chain.specs.declared.RotaryLimits.{RotaryLimits}
 use Rattle.chain.specs.declared.Joints.{Joints}
 use Rattle.chain.specs.declared.Prepared.{Prepared}
-use Rattle.chain.specs.declared.Travel.{Travel}
 use Rattle.inverse.specs.declared.Angles.{Angles}
-use Rattle.inverse.specs.declared.RawAngles.{RawAngles}
-use Rattle.inverse.specs.declared.RawAngles.TheVariants.{At, Nothing}
 use Rattle.inverse.specs.declared.RawPair.{RawPair}
 use Rattle.inverse.specs.Wraps.{allowed, keep_allowed, angle_candidates, angles_of, has, add_pair, add_row, add_rows, add_raw, expand_wraps}
 use Rattle.inverse.specs.Solutions.{precedes, insert, sorted}
@@ -37,22 +36,22 @@ all_push test (y ∷ l) x h e =
     both g.0 (all_push test l x g.1 e)
 
 -- ---- the wraps
-module _ (first second : Travel) where
+module _ (first second : Option RotaryLimits) where
   abbrev pub inside : Angles → Bool
   inside a = allowed first a.a0 && allowed second a.a1
 
-  kept_by : (b : Bool) (travel : Travel) (l : List Float) (x : Float) → allowed travel x ≡ b → all (allowed travel) l ≡ true → all (allowed travel) (cond b (l ++ (x ∷ [])) l) ≡ true
+  kept_by : (b : Bool) (travel : Option RotaryLimits) (l : List Float) (x : Float) → allowed travel x ≡ b → all (allowed travel) l ≡ true → all (allowed travel) (cond b (l ++ (x ∷ [])) l) ≡ true
   kept_by true travel l x e h = all_push (allowed travel) l x h e
   kept_by false travel l x e h = h
 
-  keep_allowed_lem : (travel : Travel) (l : List Float) (x : Float) → all (allowed travel) l ≡ true → all (allowed travel) (keep_allowed travel l x) ≡ true
+  all_allowed_kept : (travel : Option RotaryLimits) (l : List Float) (x : Float) → all (allowed travel) l ≡ true → all (allowed travel) (keep_allowed travel l x) ≡ true
   unfolding keep_allowed
-  keep_allowed_lem travel l x h = kept_by (allowed travel x) travel l x refl h
+  all_allowed_kept travel l x h = kept_by (allowed travel x) travel l x refl h
 
-  candidates_allowed : (angle : Float) (travel : Travel) → all (allowed travel) (angle_candidates angle travel) ≡ true
+  candidates_allowed : (angle : Float) (travel : Option RotaryLimits) → all (allowed travel) (angle_candidates angle travel) ≡ true
   unfolding angle_candidates fold all
   candidates_allowed angle travel =
-      keep_allowed_lem travel _ _ (keep_allowed_lem travel _ _ (keep_allowed_lem travel _ _ (keep_allowed_lem travel _ _ (keep_allowed_lem travel [] _ refl))))
+      all_allowed_kept travel _ _ (all_allowed_kept travel _ _ (all_allowed_kept travel _ _ (all_allowed_kept travel _ _ (all_allowed_kept travel [] _ refl))))
 
   pair_by : (b : Bool) (l : List Angles) (a : Angles) → inside a ≡ true → all inside l ≡ true → all inside (cond b l (l ++ (a ∷ []))) ≡ true
   pair_by true l a e h = h
@@ -67,9 +66,9 @@ module _ (first second : Travel) where
   unfolding add_rows
   rows_inside firsts seconds l e g h = fold_keeps (add_row seconds) (allowed first) (λ s. all inside s ≡ true) (λ s a0 q p. row_inside a0 seconds s q g p) firsts l e h
 
-  raw_inside : (raw : RawAngles) (l : List Angles) → all inside l ≡ true → all inside (add_raw first second raw l) ≡ true
-  raw_inside (At raw) l h = rows_inside _ _ l (candidates_allowed raw.a0 first) (candidates_allowed raw.a1 second) h
-  raw_inside Nothing l h = h
+  raw_inside : (raw : Option Angles) (l : List Angles) → all inside l ≡ true → all inside (add_raw first second raw l) ≡ true
+  raw_inside (Some raw) l h = rows_inside _ _ l (candidates_allowed raw.a0 first) (candidates_allowed raw.a1 second) h
+  raw_inside None l h = h
 
   pub wraps_inside : (raw : RawPair) → all inside (expand_wraps first second raw) ≡ true
   unfolding expand_wraps all
@@ -78,18 +77,18 @@ module _ (first second : Travel) where
 -- ---- the joint sets
 module _ (p : Prepared) (target tip : Vec3) (tool : Float) (good : Angles → Bool) (test : Joints → Bool)
     (passes : (a : Angles) → good a ≡ true → misses (pose_at p a tool).axis target ≡ false → test (joints_at p a tip (pose_at p a tool).tip) ≡ true) where
-  reached_by_lem : (b : Bool) (a : Angles) (l : List Joints) → misses (pose_at p a tool).axis target ≡ b → good a ≡ true → all test l ≡ true
+  reached_by_all : (b : Bool) (a : Angles) (l : List Joints) → misses (pose_at p a tool).axis target ≡ b → good a ≡ true → all test l ≡ true
       → all test (cond b l (joints_at p a tip (pose_at p a tool).tip ∷ l)) ≡ true
   unfolding all
-  reached_by_lem true a l e g h = h
-  reached_by_lem false a l e g h = both (passes a g e) h
+  reached_by_all true a l e g h = h
+  reached_by_all false a l e g h = both (passes a g e) h
 
   reached_pass : (l : List Angles) → all good l ≡ true → all test (reached p target tip tool l) ≡ true
   unfolding reached all
   reached_pass [] h = refl
   reached_pass (a ∷ l) h =
       let e = (and-eq-true_iff (good a) (all good l)).0 h in
-      reached_by_lem (misses (pose_at p a tool).axis target) a (reached p target tip tool l) refl e.0 (reached_pass l e.1)
+      reached_by_all (misses (pose_at p a tool).axis target) a (reached p target tip tool l) refl e.0 (reached_pass l e.1)
 
   insert_by : (b : Bool) (j k : Joints) (l m : List Joints) → test j ≡ true → all test (k ∷ l) ≡ true → all test m ≡ true → all test (cond b (j ∷ k ∷ l) (k ∷ m)) ≡ true
   unfolding all

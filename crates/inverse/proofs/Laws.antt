@@ -8,14 +8,12 @@ use borrow.Author.Tests.{ltb-true}
 use lib.Dec.{ltb}
 use lib.ListN.{length, get_or}
 use lib.Ieee.{Float}
+use Rattle.std.specs.Prelude.{Err, None, Ok, Option, Some}
 use Rattle.lists.specs.Search.{all}
 use Rattle.geometry.specs.declared.Vec3.{Vec3}
-use Rattle.geometry.specs.declared.Direction.{Direction}
-use Rattle.geometry.specs.declared.Direction.TheVariants.{Unit, Nowhere}
 use Rattle.geometry.specs.Direction.{unit_direction}
-use Rattle.refusal.specs.Numbers.{not_finite, not_reachable, outside_limits}
-use Rattle.chain.specs.declared.Checked.{Checked}
-use Rattle.chain.specs.declared.Checked.TheVariants.{Passed, Refused}
+use Rattle.refusal.specs.declared.Cause.{Cause}
+use Rattle.chain.specs.Checked.{Checked}
 use Rattle.chain.specs.declared.Joints.{Joints}
 use Rattle.chain.specs.declared.Kinematics.{Kinematics}
 use Rattle.chain.specs.declared.ToolPose.{ToolPose}
@@ -26,9 +24,8 @@ use Rattle.chain.specs.Prepared.{prepared}
 use Rattle.inverse.specs.declared.Angles.{Angles}
 use Rattle.inverse.specs.declared.RawPair.{RawPair}
 use Rattle.inverse.specs.Wraps.{allowed, second_travel}
-use Rattle.inverse.specs.Solutions.{precedes, origin, listed, filled}
-use Rattle.inverse.specs.Inverse.{pose_at, misses, joints_at, solutions, wrapped, raw_angles, some_raw, positions_finite, solved_check, answered, solved, toward, unless_refused, inverse_check, inverse}
-use Rattle.inverse.proofs.Insertion.{listed_filled}
+use Rattle.inverse.specs.Solutions.{precedes, origin, filled}
+use Rattle.inverse.specs.Inverse.{pose_at, misses, joints_at, solutions, wrapped, raw_angles, some_raw, positions_finite, solved_check, answered, solved, toward, unless_refused, inverse_check, inverse, checked_in, solutions_in}
 use Rattle.inverse.proofs.Order.{in_order, sorted_order, neighbours}
 use Rattle.inverse.proofs.Kept.{wraps_inside, solutions_pass}
 use Rattle.inverse.proofs.Counting.{wraps_fifty, solutions_most}
@@ -45,49 +42,49 @@ module _ (k : Kinematics) (pose : ToolPose) (tool : Float) (hint : Angles) where
       omega arith
 
   -- ---- the answers are none, or what was found
-  answered_are : (P : List Joints → Type 0) (c : Checked) (l : List Joints) → length l ≤ 50 → P [] → P l → P (listed (answered c (filled l)).solutions)
-  answered_are P Passed l h none some = subst P (sym (listed_filled l h)) some
-  answered_are P (Refused r) l h none some = none
+  answered_are : (P : List Joints → Type 0) (c : Checked) (l : List Joints) → P [] → P l → P (solutions_in (answered c (filled l)))
+  answered_are P (Ok _) l none some = some
+  answered_are P (Err r) l none some = none
 
-  toward_are : (P : List Joints → Type 0) (c : Checked) (d : Direction) → P [] → ((target : Vec3) → d ≡ Unit target → P (found target))
-      → P (listed (unless_refused c (toward d k pose.tip tool hint)).solutions)
+  toward_are : (P : List Joints → Type 0) (c : Checked) (d : Option Vec3) → P [] → ((target : Vec3) → d ≡ Some target → P (found target))
+      → P (solutions_in (unless_refused c (toward d k pose.tip tool hint)))
   unfolding solved
-  toward_are P Passed (Unit target) none some =
-      answered_are P (solved_check (raw_angles k target hint) (wrapped k target hint) (found target)) (found target) (few target) none (some target refl)
-  toward_are P Passed Nowhere none some = none
-  toward_are P (Refused r) d none some = none
+  toward_are P (Ok _) (Some target) none some =
+      answered_are P (solved_check (raw_angles k target hint) (wrapped k target hint) (found target)) (found target) none (some target refl)
+  toward_are P (Ok _) None none some = none
+  toward_are P (Err r) d none some = none
 
-  pub answers_are : (P : List Joints → Type 0) → P [] → ((target : Vec3) → unit_direction pose.axis ≡ Unit target → P (found target))
-      → P (listed (inverse k pose tool hint).solutions)
+  pub answers_are : (P : List Joints → Type 0) → P [] → ((target : Vec3) → unit_direction pose.axis ≡ Some target → P (found target))
+      → P (solutions_in (inverse k pose tool hint))
   unfolding inverse
   answers_are P none some = toward_are P (inverse_check k pose tool hint) (unit_direction pose.axis) none some
 
   -- ---- how many
-  some_left : (raw : RawPair) (pairs : List Angles) (l : List Joints) → solved_check raw pairs l ≡ Passed → 1 ≤ length l
+  some_left : (raw : RawPair) (pairs : List Angles) (l : List Joints) → solved_check raw pairs l ≡ Ok tt → 1 ≤ length l
   unfolding solved_check
   some_left raw pairs l h =
       ltb-true 0 (length l)
-      (demand_passed (ltb 0 (length l)) not_reachable 0
-      (then_passed (demand (positions_finite l) not_finite 0) _
-      (then_passed (demand (ltb 0 (length pairs)) outside_limits 0) _
-      (then_passed (demand (some_raw raw) not_reachable 0) _ h).1).1).1)
+      (demand_passed (ltb 0 (length l)) Cause.NotReachable 0
+      (then_passed (demand (positions_finite l) Cause.NotFinite 0) _
+      (then_passed (demand (ltb 0 (length pairs)) Cause.OutsideLimits 0) _
+      (then_passed (demand (some_raw raw) Cause.NotReachable 0) _ h).1).1).1)
 
-  answered_count : (c : Checked) (l : List Joints) → (c ≡ Passed → 1 ≤ length l) → length l ≤ 50 → (answered c (filled l)).checked ≡ Passed
-      → (1 ≤ (answered c (filled l)).solutions.count) × ((answered c (filled l)).solutions.count ≤ 50)
-  answered_count Passed l f h e = (f refl, h)
-  answered_count (Refused r) l f h e = absurd (refused_passed e)
+  answered_count : (c : Checked) (l : List Joints) → (c ≡ Ok tt → 1 ≤ length l) → length l ≤ 50 → checked_in (answered c (filled l)) ≡ Ok tt
+      → (1 ≤ length (solutions_in (answered c (filled l)))) × (length (solutions_in (answered c (filled l))) ≤ 50)
+  answered_count (Ok _) l f h e = (f refl, h)
+  answered_count (Err r) l f h e = absurd (refused_passed e)
 
-  toward_count : (c : Checked) (d : Direction) → (unless_refused c (toward d k pose.tip tool hint)).checked ≡ Passed
-      → (1 ≤ (unless_refused c (toward d k pose.tip tool hint)).solutions.count) × ((unless_refused c (toward d k pose.tip tool hint)).solutions.count ≤ 50)
+  toward_count : (c : Checked) (d : Option Vec3) → checked_in (unless_refused c (toward d k pose.tip tool hint)) ≡ Ok tt
+      → (1 ≤ length (solutions_in (unless_refused c (toward d k pose.tip tool hint)))) × (length (solutions_in (unless_refused c (toward d k pose.tip tool hint))) ≤ 50)
   unfolding solved
-  toward_count Passed (Unit target) e =
+  toward_count (Ok _) (Some target) e =
       answered_count (solved_check (raw_angles k target hint) (wrapped k target hint) (found target)) (found target)
       (some_left (raw_angles k target hint) (wrapped k target hint) (found target)) (few target) e
-  toward_count Passed Nowhere e = absurd (refused_passed e)
-  toward_count (Refused r) d e = absurd (refused_passed e)
+  toward_count (Ok _) None e = absurd (refused_passed e)
+  toward_count (Err r) d e = absurd (refused_passed e)
 
   -- where nothing is refused, from 1 to 50
-  pub inverse_count : (inverse k pose tool hint).checked ≡ Passed → (1 ≤ (inverse k pose tool hint).solutions.count) × ((inverse k pose tool hint).solutions.count ≤ 50)
+  pub inverse_count : checked_in (inverse k pose tool hint) ≡ Ok tt → (1 ≤ length (solutions_in (inverse k pose tool hint))) × (length (solutions_in (inverse k pose tool hint)) ≤ 50)
   unfolding inverse
   inverse_count e = toward_count (inverse_check k pose tool hint) (unit_direction pose.axis) e
 
@@ -95,7 +92,7 @@ module _ (k : Kinematics) (pose : ToolPose) (tool : Float) (hint : Angles) where
   abbrev pub allowed_angles : Joints → Bool
   allowed_angles j = allowed k.first.limits j.a0 && allowed (second_travel k) j.a1
 
-  pub inverse_allowed : all allowed_angles (listed (inverse k pose tool hint).solutions) ≡ true
+  pub inverse_allowed : all allowed_angles (solutions_in (inverse k pose tool hint)) ≡ true
   unfolding all wrapped joints_at
   inverse_allowed =
       answers_are (λ l. all allowed_angles l ≡ true) refl
@@ -103,25 +100,25 @@ module _ (k : Kinematics) (pose : ToolPose) (tool : Float) (hint : Angles) where
       (wraps_inside k.first.limits (second_travel k) (raw_angles k target hint)))
 
   -- ---- in order: none of two neighbours precedes the one before it
-  pub inverse_sorted : (i : ℕ) (d : Joints) → suc i < length (listed (inverse k pose tool hint).solutions)
-      → precedes (get_or (listed (inverse k pose tool hint).solutions) (suc i) d) (get_or (listed (inverse k pose tool hint).solutions) i d) ≡ false
+  pub inverse_sorted : (i : ℕ) (d : Joints) → suc i < length (solutions_in (inverse k pose tool hint))
+      → precedes (get_or (solutions_in (inverse k pose tool hint)) (suc i) d) (get_or (solutions_in (inverse k pose tool hint)) i d) ≡ false
   unfolding solutions in_order
-  inverse_sorted i d h = neighbours (listed (inverse k pose tool hint).solutions) i d (answers_are (λ l. in_order l ≡ true) refl (λ target e. sorted_order _)) h
+  inverse_sorted i d h = neighbours (solutions_in (inverse k pose tool hint)) i d (answers_are (λ l. in_order l ≡ true) refl (λ target e. sorted_order _)) h
 
   -- ---- on the target: the axis that forward reaches is no more than 1e-9 off
   abbrev pub axis_at : Joints → Vec3
   axis_at j = (forward_core (prepared k) (turns_of (prepared k) j.a0 j.a1) j.xyz tool).axis
 
-  abbrev aimed : Direction → Vec3
-  aimed (Unit u) = u
-  aimed Nowhere = origin
+  abbrev aimed : Option Vec3 → Vec3
+  aimed (Some u) = u
+  aimed None = origin
 
   on_target : (target : Vec3) (a : Angles) → misses (pose_at (prepared k) a tool).axis target ≡ false
       → not (misses (axis_at (joints_at (prepared k) a pose.tip (pose_at (prepared k) a tool).tip)) target) ≡ true
   unfolding pose_at joints_at forward_core reach
   on_target target a e = ap not e
 
-  pub inverse_reaches : (target : Vec3) → unit_direction pose.axis ≡ Unit target → all (λ j. not (misses (axis_at j) target)) (listed (inverse k pose tool hint).solutions) ≡ true
+  pub inverse_reaches : (target : Vec3) → unit_direction pose.axis ≡ Some target → all (λ j. not (misses (axis_at j) target)) (solutions_in (inverse k pose tool hint)) ≡ true
   unfolding all
   inverse_reaches target e =
       answers_are (λ l. all (λ j. not (misses (axis_at j) target)) l ≡ true) refl

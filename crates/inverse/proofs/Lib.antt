@@ -2,7 +2,6 @@ pub mod SmallGap
 pub mod Literals
 pub mod FromTurns
 pub mod Insertion
-pub mod Picking
 pub mod Taking
 pub mod Order
 pub mod Kept

@@ -1,29 +1,26 @@
 -- One of the solutions: the nearest to two angles, or the first whose first angle is at least -1e-9, or at most 1e-9; else the first of all.
-use Rattle.std.specs.Prelude.{Bool, true, cond, get_or, Float}
+use Rattle.std.specs.Prelude.{Bool, true, cond, List, get_or, Float, Err, Ok, Result}
+use Rattle.std.specs.List.{fold, find}
+use Rattle.std.specs.Option.{unwrap_or}
 use Rattle.std.specs.Float.Ieee as Ieee
-use Rattle.lists.specs.Fold.{fold}
-use Rattle.lists.specs.Search.{first_hit}
+use Rattle.refusal.specs.declared.Refusal.{Refusal}
 use Rattle.float.specs.Helpers.{nought, size_of, maximum}
 use Rattle.geometry.specs.Vector.{minus}
-use Rattle.chain.specs.declared.Checked.{Checked}
 use Rattle.chain.specs.declared.Joints.{Joints}
 use Rattle.chain.specs.declared.Kinematics.{Kinematics}
 use Rattle.chain.specs.declared.ToolPose.{ToolPose}
 use Rattle.inverse.specs.Subproblem.{shortest}
 use Rattle.inverse.specs.Wraps.{angles_of}
-use Rattle.inverse.specs.Solutions.{nowhere, listed}
-use Rattle.inverse.specs.Inverse.{inverse}
+use Rattle.inverse.specs.Solutions.{nowhere}
+use Rattle.inverse.specs.Inverse.{Answers, inverse}
 use Rattle.inverse.specs.declared.Angles.{Angles}
 use Rattle.inverse.specs.declared.Best.{Best}
 use Rattle.inverse.specs.declared.Choice.{Choice}
 use Rattle.inverse.specs.declared.Choice.TheVariants.{Nearest, FirstPositive, FirstNegative}
-use Rattle.inverse.specs.declared.Chosen.{Chosen}
-use Rattle.inverse.specs.declared.Chosen.TheVariants.{At, Refused}
-use Rattle.inverse.specs.declared.Solutions.{Solutions}
 
 -- the first of all; nowhere of none
-abbrev pub first : Solutions → Joints
-first s = get_or s.items 0 nowhere
+abbrev pub first : List Joints → Joints
+first l = get_or l 0 nowhere
 
 -- ---- the nearest
 unfoldable pub distance_to : Joints → Angles → Float
@@ -35,8 +32,8 @@ best_of preferred j = record { joints = j; distance = distance_to j preferred }
 unfoldable pub nearer : Angles → Best → Joints → Best
 nearer preferred best j = cond (Ieee.le best.distance (best_of preferred j).distance) best (best_of preferred j)
 
-unfoldable pub nearest : Solutions → Angles → Joints
-nearest s preferred = (fold (nearer preferred) (best_of preferred (first s)) (listed s)).joints
+unfoldable pub nearest : List Joints → Angles → Joints
+nearest l preferred = (fold (nearer preferred) (best_of preferred (first l)) l).joints
 
 -- ---- the first that suits
 abbrev pub suits : Choice → Joints → Bool
@@ -44,8 +41,8 @@ suits (Nearest a0 a1) j = true
 suits FirstPositive j = Ieee.le (Ieee.neg shortest) j.a0
 suits FirstNegative j = Ieee.le j.a0 shortest
 
-unfoldable pub first_suiting : Solutions → Choice → Joints
-first_suiting s choice = get_or (listed s) (first_hit (suits choice) (listed s)) (first s)
+unfoldable pub first_suiting : List Joints → Choice → Joints
+first_suiting l choice = unwrap_or (find (suits choice) l) (first l)
 
 -- ---- the choice
 abbrev pub hint_of : Choice → Angles
@@ -53,15 +50,15 @@ hint_of (Nearest a0 a1) = angles_of a0 a1
 hint_of FirstPositive = angles_of nought nought
 hint_of FirstNegative = angles_of nought nought
 
-abbrev pub picked : Solutions → Choice → Joints
-picked s (Nearest a0 a1) = nearest s (angles_of a0 a1)
-picked s FirstPositive = first_suiting s FirstPositive
-picked s FirstNegative = first_suiting s FirstNegative
+abbrev pub picked : List Joints → Choice → Joints
+picked l (Nearest a0 a1) = nearest l (angles_of a0 a1)
+picked l FirstPositive = first_suiting l FirstPositive
+picked l FirstNegative = first_suiting l FirstNegative
 
-abbrev pub chosen : Checked → Joints → Chosen
-chosen Checked.Passed j = At j
-chosen (Checked.Refused r) j = Refused r
+abbrev pub chosen : Answers → Choice → Result Joints Refusal
+chosen (Ok s) choice = Ok (picked s.items choice)
+chosen (Err r) choice = Err r
 
-unfoldable pub choose : Kinematics → ToolPose → Float → Choice → Chosen
+unfoldable pub choose : Kinematics → ToolPose → Float → Choice → Result Joints Refusal
 choose k pose tool choice =
-    chosen (inverse k pose tool (hint_of choice)).checked (picked (inverse k pose tool (hint_of choice)).solutions choice)
+    chosen (inverse k pose tool (hint_of choice)) choice

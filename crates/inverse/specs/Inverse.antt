@@ -1,16 +1,16 @@
 -- Inverse: the raw angles of the target axis, their whole turns within the limits, and for each pair that puts the spindle within 1e-9 of the target the gauge position that puts the tip on its place.
-use Rattle.std.specs.Prelude.{Bool, true, false, ◌&&◌, ◌||◌, cond, List, [], ◌∷◌, ltb, length, Float}
+use Rattle.std.specs.Prelude.{Bool, ◌&&◌, ◌||◌, cond, List, [], ◌∷◌, ltb, length, Float, Err, None, Ok, Option, Some, Result, is_some}
+use Rattle.std.specs.List.{list_all}
 use Rattle.std.specs.Float.Ieee as Ieee
 use Rattle.std.specs.Float.Ieee.Scale.{finite}
-use Rattle.lists.specs.Search.{all}
+use Rattle.arrayvec.specs.ArrayVec.{ArrayVec}
 use Rattle.geometry.specs.declared.Vec3.{Vec3}
-use Rattle.geometry.specs.declared.Direction.{Direction}
-use Rattle.geometry.specs.declared.Direction.TheVariants.{Unit, Nowhere}
 use Rattle.geometry.specs.Vector.{sub, norm}
 use Rattle.geometry.specs.Direction.{all_finite, unit_direction}
-use Rattle.refusal.specs.Numbers.{refusal, tool_length, tool_axis_zero, not_finite, too_large, not_reachable, outside_limits}
-use Rattle.chain.specs.declared.Checked.{Checked}
-use Rattle.chain.specs.declared.Checked.TheVariants.{Passed, Refused}
+use Rattle.refusal.specs.Numbers.{refusal}
+use Rattle.refusal.specs.declared.Refusal.{Refusal}
+use Rattle.refusal.specs.declared.Cause.{Cause}
+use Rattle.chain.specs.Checked.{Checked}
 use Rattle.chain.specs.declared.Joints.{Joints}
 use Rattle.chain.specs.declared.Kinematics.{Kinematics}
 use Rattle.chain.specs.declared.Prepared.{Prepared}
@@ -22,13 +22,9 @@ use Rattle.chain.specs.Prepared.{prepared}
 use Rattle.inverse.specs.Subproblem.{shortest}
 use Rattle.inverse.specs.Orientation.{orientation_angles}
 use Rattle.inverse.specs.Wraps.{expand_wraps, second_travel}
-use Rattle.inverse.specs.Solutions.{origin, filled, inserted, sorted, no_solutions}
+use Rattle.inverse.specs.Solutions.{origin, insert, filled, sorted}
 use Rattle.inverse.specs.declared.Angles.{Angles}
-use Rattle.inverse.specs.declared.Answers.{Answers}
-use Rattle.inverse.specs.declared.RawAngles.{RawAngles}
-use Rattle.inverse.specs.declared.RawAngles.TheVariants.{At, Nothing}
 use Rattle.inverse.specs.declared.RawPair.{RawPair}
-use Rattle.inverse.specs.declared.Solutions.{Solutions}
 
 -- ---- one pair of angles
 -- the pose at position zero
@@ -58,18 +54,14 @@ reached p target tip tool (angles ∷ l) =
 unfoldable pub solutions : Prepared → Vec3 → Vec3 → Float → List Angles → List Joints
 solutions p target tip tool pairs = sorted (reached p target tip tool pairs)
 
--- one pair more, in the array
-unfoldable pub taken_in : Prepared → Vec3 → Vec3 → Float → Solutions → Angles → Solutions
-taken_in p target tip tool s angles =
-    cond (misses (pose_at p angles tool).axis target) s (inserted s (joints_at p angles tip (pose_at p angles tool).tip))
+-- the solutions with that of one pair more
+unfoldable pub taken_in : Prepared → Vec3 → Vec3 → Float → List Joints → Angles → List Joints
+taken_in p target tip tool l angles =
+    cond (misses (pose_at p angles tool).axis target) l (insert l (joints_at p angles tip (pose_at p angles tool).tip))
 
 -- ---- what may be wrong with them
 unfoldable pub positions_finite : List Joints → Bool
-positions_finite l = all (λ j. all_finite j.xyz) l
-
-abbrev pub is_some : RawAngles → Bool
-is_some (At angles) = true
-is_some Nothing = false
+positions_finite l = list_all (λ j. all_finite j.xyz) l
 
 unfoldable pub some_raw : RawPair → Bool
 some_raw raw = is_some raw.first || is_some raw.second
@@ -77,19 +69,28 @@ some_raw raw = is_some raw.first || is_some raw.second
 unfoldable pub solved_check : RawPair → List Angles → List Joints → Checked
 solved_check raw pairs l =
     first_refusal
-    (demand (some_raw raw) not_reachable 0
-    ∷ demand (ltb 0 (length pairs)) outside_limits 0
-    ∷ demand (positions_finite l) not_finite 0
-    ∷ demand (ltb 0 (length l)) not_reachable 0
+    (demand (some_raw raw) Cause.NotReachable 0
+    ∷ demand (ltb 0 (length pairs)) Cause.OutsideLimits 0
+    ∷ demand (positions_finite l) Cause.NotFinite 0
+    ∷ demand (ltb 0 (length l)) Cause.NotReachable 0
     ∷ [])
 
 -- ---- the answers
-abbrev pub refused : Checked → Answers
-refused checked = record { checked = checked; solutions = no_solutions }
+abbrev pub Answers : Type 0
+Answers = Result (ArrayVec Joints) Refusal
 
-abbrev pub answered : Checked → Solutions → Answers
-answered Passed s = record { checked = Passed; solutions = s }
-answered (Refused r) s = refused (Refused r)
+abbrev pub answered : Checked → ArrayVec Joints → Answers
+answered (Ok _) s = Ok s
+answered (Err r) s = Err r
+
+-- of the answers: that none is refused, and the joint sets, none where one is
+abbrev pub checked_in : Answers → Checked
+checked_in (Ok s) = Ok tt
+checked_in (Err r) = Err r
+
+abbrev pub solutions_in : Answers → List Joints
+solutions_in (Ok s) = s.items
+solutions_in (Err r) = []
 
 unfoldable pub raw_angles : Kinematics → Vec3 → Angles → RawPair
 raw_angles k target hint = orientation_angles (prepared k) target hint
@@ -117,21 +118,21 @@ inverse_sizes k tip tool hint = within tool longest && all_within tip longest &&
 unfoldable pub inverse_check : Kinematics → ToolPose → Float → Angles → Checked
 inverse_check k pose tool hint =
     first_refusal
-    (demand (length_good tool) tool_length 0
-    ∷ demand (has_direction pose.axis) tool_axis_zero 0
+    (demand (length_good tool) Cause.ToolLength 0
+    ∷ demand (has_direction pose.axis) Cause.ToolAxisZero 0
     ∷ chain_check k
-    ∷ demand (all_finite pose.tip) not_finite 0
-    ∷ demand (hint_finite hint) not_finite 0
-    ∷ demand (inverse_sizes k pose.tip tool hint) too_large 0
+    ∷ demand (all_finite pose.tip) Cause.NotFinite 0
+    ∷ demand (hint_finite hint) Cause.NotFinite 0
+    ∷ demand (inverse_sizes k pose.tip tool hint) Cause.TooLarge 0
     ∷ [])
 
-abbrev pub toward : Direction → Kinematics → Vec3 → Float → Angles → Answers
-toward (Unit target) k tip tool hint = solved k target tip tool hint
-toward Nowhere k tip tool hint = refused (Refused (refusal tool_axis_zero 0))
+abbrev pub toward : Option Vec3 → Kinematics → Vec3 → Float → Angles → Answers
+toward (Some target) k tip tool hint = solved k target tip tool hint
+toward None k tip tool hint = Err (refusal Cause.ToolAxisZero 0)
 
 abbrev pub unless_refused : Checked → Answers → Answers
-unless_refused Passed answers = answers
-unless_refused (Refused r) answers = refused (Refused r)
+unless_refused (Ok _) answers = answers
+unless_refused (Err r) answers = Err r
 
 unfoldable pub inverse : Kinematics → ToolPose → Float → Angles → Answers
 inverse k pose tool hint = unless_refused (inverse_check k pose tool hint) (toward (unit_direction pose.axis) k pose.tip tool hint)

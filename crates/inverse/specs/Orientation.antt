@@ -1,5 +1,5 @@
 -- The rotary angles that put the spindle on a target axis, before whole turns and limits: none, one or two. A free angle takes the hint.
-use Rattle.std.specs.Prelude.{cond, Float}
+use Rattle.std.specs.Prelude.{cond, Float, None, Option, Some}
 use Rattle.std.specs.Float.Ieee as Ieee
 use Rattle.float.specs.Helpers.{nought, one}
 use Rattle.geometry.specs.declared.Vec3.{Vec3}
@@ -8,20 +8,17 @@ use Rattle.chain.specs.declared.Mount.{Mount}
 use Rattle.chain.specs.declared.Mount.TheVariants.{Table, Head, Absent}
 use Rattle.chain.specs.declared.Spin.{Spin}
 use Rattle.chain.specs.declared.Prepared.{Prepared}
+use Rattle.inverse.specs.declared.SolvedAngle.{SolvedAngle}
 use Rattle.inverse.specs.Subproblem.{shortest, sp1, sp2, apply_angle}
 use Rattle.inverse.specs.AxisMap.{minus_one, axis_map_of, placed, hint_x, hint_y, angles}
 use Rattle.inverse.specs.declared.SolvedAngle.TheVariants.{Fixed, Free}
-use Rattle.inverse.specs.declared.Solved.{Solved}
-use Rattle.inverse.specs.declared.SolvedPair.{SolvedPair}
 use Rattle.inverse.specs.declared.SolvedPairs.{SolvedPairs}
 use Rattle.inverse.specs.declared.Angles.{Angles}
-use Rattle.inverse.specs.declared.RawAngles.{RawAngles}
-use Rattle.inverse.specs.declared.RawAngles.TheVariants.{At, Nothing}
 use Rattle.inverse.specs.declared.RawPair.{RawPair}
 use Rattle.inverse.specs.declared.AxisMap.{AxisMap}
 
-abbrev pub one_raw : RawAngles → RawPair
-one_raw raw = record { first = raw; second = Nothing }
+abbrev pub one_raw : Option Angles → RawPair
+one_raw raw = record { first = raw; second = None }
 
 -- ---- one rotary
 abbrev pub sign_of : Mount → Float
@@ -29,11 +26,11 @@ sign_of Table = minus_one
 sign_of Head = one
 sign_of Absent = one
 
-abbrev pub one_angle : Solved → Float → Angles → RawAngles
-one_angle (Solved.Angle solved) sign hint = At (record { a0 = apply_angle solved sign hint.a0; a1 = nought })
-one_angle Solved.Nothing sign hint = Nothing
+abbrev pub one_angle : Option SolvedAngle → Float → Angles → Option Angles
+one_angle (Some solved) sign hint = Some (record { a0 = apply_angle solved sign hint.a0; a1 = nought })
+one_angle None sign hint = None
 
-unfoldable pub one_joint_angles : Spin → Vec3 → Vec3 → Angles → RawAngles
+unfoldable pub one_joint_angles : Spin → Vec3 → Vec3 → Angles → Option Angles
 one_joint_angles s spindle target hint = one_angle (sp1 s.axis spindle target) (sign_of s.mount) hint
 
 -- ---- two parallel rotaries
@@ -46,18 +43,18 @@ shared_turn m total sigma hint =
     (placed m (hint_x m hint) (times m.y_sign (times sigma (minus total (times m.x_sign (hint_x m hint))))))
     (placed m (times m.x_sign (minus total (times sigma (times m.y_sign (hint_y m hint))))) (hint_y m hint))
 
-abbrev pub by_total : AxisMap → Angles → Solved → RawAngles
-by_total m hint (Solved.Angle Free) = At hint
-by_total m hint (Solved.Angle (Fixed turn)) = At (shared_turn m turn (sigma_of m) hint)
-by_total m hint Solved.Nothing = Nothing
+abbrev pub by_total : AxisMap → Angles → Option SolvedAngle → Option Angles
+by_total m hint (Some Free) = Some hint
+by_total m hint (Some (Fixed turn)) = Some (shared_turn m turn (sigma_of m) hint)
+by_total m hint None = None
 
-unfoldable pub parallel_angles : AxisMap → Vec3 → Vec3 → Angles → RawAngles
+unfoldable pub parallel_angles : AxisMap → Vec3 → Vec3 → Angles → Option Angles
 parallel_angles m spindle target hint = by_total m hint (sp1 m.wa spindle target)
 
 -- ---- two rotaries
-abbrev pub raw_of : AxisMap → SolvedPair → Angles → RawAngles
-raw_of m (SolvedPair.Angles x y) hint = At (angles m x y hint)
-raw_of m SolvedPair.Nothing hint = Nothing
+abbrev pub raw_of : AxisMap → Option (SolvedAngle × SolvedAngle) → Angles → Option Angles
+raw_of m (Some (x, y)) hint = Some (angles m x y hint)
+raw_of m None hint = None
 
 abbrev pub raw_pair : AxisMap → SolvedPairs → Angles → RawPair
 raw_pair m pairs hint = record { first = raw_of m pairs.first hint; second = raw_of m pairs.second hint }

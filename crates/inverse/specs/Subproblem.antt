@@ -1,20 +1,15 @@
 -- Paden-Kahan subproblems 1 and 2 (Murray, Li, Sastry 1994) as the Rust computes them, step by step.
-use Rattle.std.specs.Prelude.{cond, Float}
+use Rattle.std.specs.Prelude.{cond, Float, None, Option, Some}
 use Rattle.std.specs.Float.Ieee as Ieee
 use Rattle.std.specs.Float.{binary64}
 use Rattle.std.specs.Float.Ieee.{of_bits}
 use Rattle.float.specs.Helpers.{nought, one, size_of, clamp_unit, maximum, to_degrees}
 use Rattle.root.specs.Root.{root}
 use Rattle.trig.specs.Arctangent.{arctangent_of}
-use Rattle.trig.specs.declared.Answer.{Answer}
-use Rattle.trig.specs.declared.Answer.TheVariants.{Value, OutOfRange}
 use Rattle.geometry.specs.declared.Vec3.{Vec3}
 use Rattle.geometry.specs.Vector.{add, sub, scale, dot, cross, norm, plus, minus, times, over}
 use Rattle.inverse.specs.declared.SolvedAngle.{SolvedAngle}
 use Rattle.inverse.specs.declared.SolvedAngle.TheVariants.{Fixed, Free}
-use Rattle.inverse.specs.declared.Solved.{Solved}
-use Rattle.inverse.specs.declared.Solved.TheVariants.{Angle, Nothing}
-use Rattle.inverse.specs.declared.SolvedPair.{SolvedPair}
 use Rattle.inverse.specs.declared.SolvedPairs.{SolvedPairs}
 
 -- 1e-7 and 1e-9
@@ -28,38 +23,38 @@ unfoldable pub square_part : Vec3 → Vec3 → Float → Vec3
 square_part v w along = sub v (scale w along)
 
 -- ---- subproblem 1
-abbrev pub fixed_at : Answer → Solved
-fixed_at (Value radians) = Angle (Fixed (to_degrees radians))
-fixed_at OutOfRange = Nothing
+abbrev pub fixed_at : Option Float → Option SolvedAngle
+fixed_at (Some radians) = Some (Fixed (to_degrees radians))
+fixed_at None = None
 
-unfoldable pub turned_by : Vec3 → Vec3 → Vec3 → Solved
+unfoldable pub turned_by : Vec3 → Vec3 → Vec3 → Option SolvedAngle
 turned_by w u v = fixed_at (arctangent_of (dot w (cross u v)) (dot u v))
 
 -- of the parts u, v square to w: refused where their lengths differ, free where they are short
-unfoldable pub between_parts : Vec3 → Vec3 → Vec3 → Solved
+unfoldable pub between_parts : Vec3 → Vec3 → Vec3 → Option SolvedAngle
 between_parts w u v =
-    cond (Ieee.lt gap_tolerance (size_of (minus (norm u) (norm v)))) Nothing
-    (cond (Ieee.lt (norm u) shortest) (Angle Free) (turned_by w u v))
+    cond (Ieee.lt gap_tolerance (size_of (minus (norm u) (norm v)))) None
+    (cond (Ieee.lt (norm u) shortest) (Some Free) (turned_by w u v))
 
-unfoldable pub sp1 : Vec3 → Vec3 → Vec3 → Solved
+unfoldable pub sp1 : Vec3 → Vec3 → Vec3 → Option SolvedAngle
 sp1 w u v =
-    cond (Ieee.lt gap_tolerance (size_of (minus (dot w u) (dot w v)))) Nothing
+    cond (Ieee.lt gap_tolerance (size_of (minus (dot w u) (dot w v)))) None
     (between_parts w (square_part u w (dot w u)) (square_part v w (dot w v)))
 
 -- ---- subproblem 2
-abbrev pub both_solved : Solved → Solved → SolvedPair
-both_solved (Angle y) (Angle x) = SolvedPair.Angles x y
-both_solved (Angle y) Nothing = SolvedPair.Nothing
-both_solved Nothing x = SolvedPair.Nothing
+abbrev pub both_solved : Option SolvedAngle → Option SolvedAngle → Option (SolvedAngle × SolvedAngle)
+both_solved (Some y) (Some x) = Some (x, y)
+both_solved (Some y) None = None
+both_solved None x = None
 
-unfoldable pub solved_pair : Vec3 → Vec3 → Vec3 → Vec3 → Vec3 → SolvedPair
+unfoldable pub solved_pair : Vec3 → Vec3 → Vec3 → Vec3 → Vec3 → Option (SolvedAngle × SolvedAngle)
 solved_pair wa wb p q c = both_solved (sp1 wb p c) (sp1 wa c q)
 
 unfoldable pub on_circle : Vec3 → Float → Float → Vec3 → Vec3 → Float → Float → Vec3
 on_circle wa qa rho e1 e2 cosine sine = add (scale wa qa) (scale (add (scale e1 cosine) (scale e2 sine)) rho)
 
-abbrev pub one_pair : SolvedPair → SolvedPairs
-one_pair pair = record { first = pair; second = SolvedPair.Nothing }
+abbrev pub one_pair : Option (SolvedAngle × SolvedAngle) → SolvedPairs
+one_pair pair = record { first = pair; second = None }
 
 -- the root of (1 - c) (1 + c), not below zero
 unfoldable pub sine_beside : Float → Float
@@ -77,12 +72,12 @@ both_points wa wb p q e1 e2 cosine qa rho =
 -- e1 along the square part of wb, e2 square to it and to wa
 unfoldable pub in_frame : Vec3 → Vec3 → Vec3 → Vec3 → Vec3 → Float → Float → Float → SolvedPairs
 in_frame wa wb p q e1 cosine qa rho =
-    cond (Ieee.le (norm (cross wa e1)) shortest) (one_pair SolvedPair.Nothing)
+    cond (Ieee.le (norm (cross wa e1)) shortest) (one_pair None)
     (both_points wa wb p q e1 (scale (cross wa e1) (over one (norm (cross wa e1)))) cosine qa rho)
 
 unfoldable pub about_circle : Vec3 → Vec3 → Vec3 → Vec3 → Vec3 → Float → Float → Float → SolvedPairs
 about_circle wa wb p q e1 cosine qa rho =
-    cond (Ieee.lt (plus one gap_tolerance) (size_of cosine)) (one_pair SolvedPair.Nothing) (in_frame wa wb p q e1 (clamp_unit cosine) qa rho)
+    cond (Ieee.lt (plus one gap_tolerance) (size_of cosine)) (one_pair None) (in_frame wa wb p q e1 (clamp_unit cosine) qa rho)
 
 unfoldable pub through_point : Vec3 → Vec3 → Vec3 → Vec3 → Vec3 → Float → Float → Float → Float → SolvedPairs
 through_point wa wb p q wbPerp wbLen d qa rho =
@@ -94,7 +89,7 @@ beside wa wb p q wbPerp wbLen d qa = through_point wa wb p q wbPerp wbLen d qa (
 
 unfoldable pub sp2 : Vec3 → Vec3 → Vec3 → Vec3 → SolvedPairs
 sp2 wa wb p q =
-    cond (Ieee.le (norm (square_part wb wa (dot wa wb))) shortest) (one_pair SolvedPair.Nothing)
+    cond (Ieee.le (norm (square_part wb wa (dot wa wb))) shortest) (one_pair None)
     (beside wa wb p q (square_part wb wa (dot wa wb)) (norm (square_part wb wa (dot wa wb))) (dot wa wb) (dot wa q))
 
 -- ---- a joint's angle

@@ -1,22 +1,17 @@
 -- Whole turns of the raw angles: each angle two turns back, one back, as it is, one on and two on, where its rotary may go; each first angle with each second one; a pair that is the same as an earlier one left out.
-use Rattle.std.specs.Prelude.{Bool, ◌&&◌, cond, List, [], ◌∷◌, ◌++◌, eqb, take, Float}
+use Rattle.std.specs.Prelude.{Bool, ◌&&◌, cond, List, [], ◌∷◌, ◌++◌, eqb, Float, None, Option, Some}
+use Rattle.std.specs.List.{list_any}
 use Rattle.std.specs.Float.Ieee as Ieee
 use Rattle.std.specs.Float.{binary64}
 use Rattle.std.specs.Float.Ieee.{of_bits}
 use Rattle.lists.specs.Fold.{fold}
-use Rattle.lists.specs.Search.{any}
 use Rattle.float.specs.Helpers.{nought, size_of}
 use Rattle.geometry.specs.Vector.{plus, minus}
+use Rattle.chain.specs.declared.RotaryLimits.{RotaryLimits}
 use Rattle.chain.specs.declared.Kinematics.{Kinematics}
-use Rattle.chain.specs.declared.Travel.{Travel}
-use Rattle.chain.specs.declared.Travel.TheVariants.{Unlimited, Within}
 use Rattle.chain.specs.Check.{contains}
 use Rattle.inverse.specs.Subproblem.{shortest}
 use Rattle.inverse.specs.declared.Angles.{Angles}
-use Rattle.inverse.specs.declared.Candidates.{Candidates}
-use Rattle.inverse.specs.declared.Pairs.{Pairs}
-use Rattle.inverse.specs.declared.RawAngles.{RawAngles}
-use Rattle.inverse.specs.declared.RawAngles.TheVariants.{At, Nothing}
 use Rattle.inverse.specs.declared.RawPair.{RawPair}
 
 -- ---- one angle
@@ -36,26 +31,22 @@ whole_turns = Ieee.neg two_turns ∷ Ieee.neg one_turn ∷ nought ∷ one_turn �
 unfoldable pub principal : Float → Bool
 principal angle = Ieee.lt (Ieee.neg half_turn) angle && Ieee.le angle half_turn
 
-abbrev pub allowed : Travel → Float → Bool
-allowed (Within limits) angle = contains limits angle
-allowed Unlimited angle = principal angle
+abbrev pub allowed : Option RotaryLimits → Float → Bool
+allowed (Some limits) angle = contains limits angle
+allowed None angle = principal angle
 
-unfoldable pub keep_allowed : Travel → List Float → Float → List Float
+unfoldable pub keep_allowed : Option RotaryLimits → List Float → Float → List Float
 keep_allowed travel l angle = cond (allowed travel angle) (l ++ (angle ∷ [])) l
 
-unfoldable pub angle_candidates : Float → Travel → List Float
+unfoldable pub angle_candidates : Float → Option RotaryLimits → List Float
 angle_candidates angle travel = fold (λ l turn. keep_allowed travel l (plus angle turn)) [] whole_turns
-
--- the angles that an array of them holds
-abbrev pub turned : Candidates → List Float
-turned s = take s.count s.items
 
 -- ---- pairs
 unfoldable pub same_angles : Angles → Angles → Bool
 same_angles left right = Ieee.lt (size_of (minus left.a0 right.a0)) shortest && Ieee.lt (size_of (minus left.a1 right.a1)) shortest
 
 unfoldable pub has : Angles → List Angles → Bool
-has pair l = any (λ have. same_angles have pair) l
+has pair l = list_any (λ have. same_angles have pair) l
 
 abbrev pub angles_of : Float → Float → Angles
 angles_of a0 a1 = record { a0 = a0; a1 = a1 }
@@ -69,17 +60,14 @@ add_row second l a0 = fold (add_pair a0) l second
 unfoldable pub add_rows : List Float → List Float → List Angles → List Angles
 add_rows first second l = fold (add_row second) l first
 
-abbrev pub add_raw : Travel → Travel → RawAngles → List Angles → List Angles
-add_raw first second (At raw) l = add_rows (angle_candidates raw.a0 first) (angle_candidates raw.a1 second) l
-add_raw first second Nothing l = l
-
-abbrev pub paired : Pairs → List Angles
-paired s = take s.count s.items
+abbrev pub add_raw : Option RotaryLimits → Option RotaryLimits → Option Angles → List Angles → List Angles
+add_raw first second (Some raw) l = add_rows (angle_candidates raw.a0 first) (angle_candidates raw.a1 second) l
+add_raw first second None l = l
 
 -- ---- the raw angles, in their order
-unfoldable pub expand_wraps : Travel → Travel → RawPair → List Angles
+unfoldable pub expand_wraps : Option RotaryLimits → Option RotaryLimits → RawPair → List Angles
 expand_wraps first second raw = add_raw first second raw.second (add_raw first second raw.first [])
 
 -- a second rotary that the chain has not is without limits
-unfoldable pub second_travel : Kinematics → Travel
-second_travel k = cond (eqb k.count 2) k.second.limits Unlimited
+unfoldable pub second_travel : Kinematics → Option RotaryLimits
+second_travel k = cond (eqb k.count 2) k.second.limits None

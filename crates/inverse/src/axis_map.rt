@@ -1,4 +1,5 @@
-// How the orientation equation's two angles belong to the joints: tables turn the work, so their angles count negative; the inner joint of two parallel ones keeps the hint.
+// How the orientation equation's two angles belong to the joints: tables turn the work, so their angles count negative;
+// the inner joint of two parallel ones keeps the hint.
 ghost use Rattle.std.specs.Prelude.{◌≡◌};
 ghost use Rattle.inverse.specs.AxisMap as S;
 

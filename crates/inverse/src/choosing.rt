@@ -1,10 +1,12 @@
 // One of the solutions of a pose.
-ghost use Rattle.std.specs.Prelude.{◌≤◌, ◌≡◌};
+ghost use Rattle.std.specs.Prelude.{◌≡◌};
+ghost use Rattle.std.specs.List.{find};
 ghost use Rattle.inverse.specs.Choose as S;
 
 use crate::inverse_map::inverse;
-use crate::{Angles, Best, Choice, Chosen, Solutions};
-use chain::{Checked, Joints, Kinematics, ToolPose};
+use crate::{Angles, Best, Choice};
+use chain::{Joints, Kinematics, ToolPose};
+use refusal::Refusal;
 
 // The hint that goes with a choice: the two angles asked for, else zero.
 fn hint_of(choice: Choice) -> Angles
@@ -47,20 +49,21 @@ fn nearer(preferred: Angles, best: Best, j: Joints) -> Best
     other
 }
 
-fn nearest(s: Solutions, preferred: Angles) -> Joints
-    requires { s.count ≤ 50 }
-    ensures { result ≡ S.nearest s preferred }
+// The first of all; nowhere of none.
+fn first_of(solutions: &[Joints]) -> Joints
+    ensures { result ≡ S.first solutions.now }
 {
-    let n = s.count;
-    let items = s.items;
-    let first = items[0];
-    let mut best = best_of(preferred, first);
-    let mut k = 0;
-    while k < n {
-        let j = items[k];
-        best = nearer(preferred, best, j);
-        k += 1;
-    }
+    solutions.first().copied().unwrap_or_default()
+}
+
+#[tactic(auto, unfolding(crate::specs::Choose::nearest))]
+fn nearest(solutions: &[Joints], preferred: Angles) -> Joints
+    ensures { result ≡ S.nearest solutions.now preferred }
+{
+    let first = best_of(preferred, first_of(solutions));
+    let best = solutions
+        .iter()
+        .fold(first, |best, j| nearer(preferred, best, *j));
     best.joints
 }
 
@@ -75,43 +78,40 @@ fn suits(choice: Choice, j: Joints) -> bool
     }
 }
 
-// The first that suits, else the first of all.
-fn first_suiting(s: Solutions, choice: Choice) -> Joints
-    requires { s.count ≤ 50 }
-    ensures { result ≡ S.first_suiting s choice }
+fn first_that_suits(solutions: &[Joints], choice: Choice) -> Option<Joints>
+    ensures { result ≡ find (S.suits choice) solutions.now }
 {
-    let n = s.count;
-    let items = s.items;
-    let mut k = 0;
-    while k < n {
-        let j = items[k];
-        if suits(choice, j) {
-            return j;
-        }
-        k += 1;
-    }
-    items[0]
+    solutions.iter().copied().find(|j| suits(choice, *j))
 }
 
-fn picked(s: Solutions, choice: Choice) -> Joints
-    requires { s.count ≤ 50 }
-    ensures { result ≡ S.picked s choice }
+// The first that suits, else the first of all.
+#[tactic(auto, unfolding(crate::specs::Choose::first_suiting))]
+fn first_suiting(solutions: &[Joints], choice: Choice) -> Joints
+    ensures { result ≡ S.first_suiting solutions.now choice }
+{
+    first_that_suits(solutions, choice).unwrap_or(first_of(solutions))
+}
+
+fn picked(solutions: &[Joints], choice: Choice) -> Joints
+    ensures { result ≡ S.picked solutions.now choice }
 {
     match choice {
-        Choice::Nearest(a0, a1) => nearest(s, Angles { a0, a1 }),
-        Choice::FirstPositive => first_suiting(s, choice),
-        Choice::FirstNegative => first_suiting(s, choice),
+        Choice::Nearest(a0, a1) => nearest(solutions, Angles { a0, a1 }),
+        Choice::FirstPositive => first_suiting(solutions, choice),
+        Choice::FirstNegative => first_suiting(solutions, choice),
     }
 }
 
 // One of the joint sets that `inverse` gives, or its refusal.
-pub fn choose(k: Kinematics, pose: ToolPose, tool_length: f64, choice: Choice) -> Chosen
+#[tactic(auto, unfolding(crate::specs::Choose::choose))]
+pub fn choose(
+    k: Kinematics,
+    pose: ToolPose,
+    tool_length: f64,
+    choice: Choice,
+) -> Result<Joints, Refusal>
     ensures { result ≡ S.choose k pose tool_length choice }
 {
-    let answers = inverse(k, pose, tool_length, hint_of(choice));
-    let checked = answers.checked;
-    if let Checked::Refused(r) = checked {
-        return Chosen::Refused(r);
-    }
-    Chosen::At(picked(answers.solutions, choice))
+    let solutions = inverse(k, pose, tool_length, hint_of(choice))?;
+    Ok(picked(&solutions, choice))
 }

@@ -1,10 +1,11 @@
-// The order of the solutions, and one more put in its place: by the size of the first angle, then the first angle, then the second, each in totalOrder. Of two that tie the earlier stays first.
-ghost use Rattle.std.specs.Prelude.{◌<◌, ◌≡◌};
+// The order of the solutions, and one more put in its place: by the size of the first angle, then the first angle, then
+// the second, each in totalOrder. Of two that tie the earlier stays first.
+ghost use Rattle.std.specs.Prelude.{◌+◌, ◌≤◌, ◌<◌, ◌≡◌, length};
+ghost use Rattle.std.specs.List.{position_or_len};
 ghost use Rattle.inverse.specs.Solutions as S;
 
-use crate::{Solutions, Step};
+use crate::Solutions;
 use chain::Joints;
-use geometry::Vec3;
 
 // Whether the first angle of j stands before that of k by its size.
 fn smaller(j: Joints, k: Joints) -> bool
@@ -14,6 +15,7 @@ fn smaller(j: Joints, k: Joints) -> bool
 }
 
 // Whether j stands before k.
+// Not by `total_cmp(..).then_with(..)`: what `then_with` promises has one case for each Ordering, and needs a law here.
 pub fn precedes(j: Joints, k: Joints) -> bool
     ensures { result ≡ S.precedes j k }
 {
@@ -32,72 +34,20 @@ pub fn precedes(j: Joints, k: Joints) -> bool
     float::precedes(j.a1, k.a1)
 }
 
-// `placed`: the new one has its place, and what is carried only moves on by one.
-fn step_in(carry: Joints, placed: bool, here: Joints) -> Step
-    ensures { result ≡ S.step_in carry placed here }
+// How many stand before the first that j precedes.
+fn place_of(solutions: &[Joints], j: Joints) -> usize
+    ensures place { result ≡ position_or_len (S.precedes j) solutions.now }
+    ensures within { result ≤ length solutions.now }
 {
-    if placed {
-        return Step {
-            kept: carry,
-            carry: here,
-            placed: true,
-        };
-    }
-    if precedes(carry, here) {
-        return Step {
-            kept: carry,
-            carry: here,
-            placed: true,
-        };
-    }
-    Step {
-        kept: here,
-        carry,
-        placed: false,
-    }
+    solutions.iter().take_while(|k| !precedes(j, **k)).count()
 }
 
-// j before the first that it precedes. The others move on in the same array.
-pub fn insert(s: Solutions, j: Joints) -> Solutions
-    requires { s.count < 50 }
-    ensures { result ≡ S.inserted s j }
+// j before the first that it precedes.
+pub fn insert(solutions: &mut Solutions, j: Joints)
+    requires { length solutions.old.items < 50 }
+    ensures list { solutions.new.items ≡ S.insert solutions.old.items j }
+    ensures count { length solutions.new.items ≡ length solutions.old.items + 1 }
 {
-    let n = s.count;
-    let mut items = s.items;
-    let mut carry = j;
-    let mut placed = false;
-    let mut k = 0;
-    while k < n {
-        let here = items[k];
-        let step = step_in(carry, placed, here);
-        let kept = step.kept;
-        items[k] = kept;
-        carry = step.carry;
-        placed = step.placed;
-        k += 1;
-    }
-    items[n] = carry;
-    Solutions {
-        count: n + 1,
-        items,
-    }
-}
-
-pub fn no_solutions() -> Solutions
-    ensures { result ≡ S.no_solutions }
-{
-    let xyz = Vec3 {
-        x: 0.0,
-        y: 0.0,
-        z: 0.0,
-    };
-    let nowhere = Joints {
-        xyz,
-        a0: 0.0,
-        a1: 0.0,
-    };
-    Solutions {
-        count: 0,
-        items: [nowhere; 50],
-    }
+    let place = place_of(solutions, j);
+    solutions.insert(place, j);
 }

@@ -4,16 +4,16 @@ ghost use Rattle.inverse.specs.Orientation as S;
 
 use crate::axis_map::axis_map_of;
 use crate::subproblem::{apply_angle, sp1, sp2};
-use crate::{Angles, AxisMap, RawAngles, RawPair, Solved, SolvedAngle, SolvedPair};
+use crate::{Angles, AxisMap, RawPair, SolvedAngle};
 use chain::{Mount, Prepared, Spin};
 use geometry::{Vec3, cross, dot, norm};
 
-fn one_raw(raw: RawAngles) -> RawPair
+fn one_raw(raw: Option<Angles>) -> RawPair
     ensures { result ≡ S.one_raw raw }
 {
     RawPair {
         first: raw,
-        second: RawAngles::Nothing,
+        second: None,
     }
 }
 
@@ -29,15 +29,14 @@ fn sign_of(mount: Mount) -> f64
 }
 
 // A chain of one rotary.
-fn one_joint_angles(s: Spin, spindle: Vec3, target: Vec3, hint: Angles) -> RawAngles
+#[tactic(auto, unfolding(crate::specs::Orientation::one_joint_angles))]
+fn one_joint_angles(s: Spin, spindle: Vec3, target: Vec3, hint: Angles) -> Option<Angles>
     ensures { result ≡ S.one_joint_angles s spindle target hint }
 {
-    let Solved::Angle(solved) = sp1(s.axis, spindle, target) else {
-        return RawAngles::Nothing;
-    };
+    let solved = sp1(s.axis, spindle, target)?;
     let mount = s.mount;
     let a0 = apply_angle(solved, sign_of(mount), hint.a0);
-    RawAngles::At(Angles { a0, a1: 0.0 })
+    Some(Angles { a0, a1: 0.0 })
 }
 
 // wb is sigma times wa, and R(wa, x) R(wb, y) the turn by x + sigma y.
@@ -64,25 +63,22 @@ fn shared_turn(map: AxisMap, total: f64, sigma: f64, hint: Angles) -> Angles
     map.placed(map.x_sign * (total - sigma * y), hint_y)
 }
 
-fn parallel_angles(map: AxisMap, spindle: Vec3, target: Vec3, hint: Angles) -> RawAngles
+#[tactic(auto, unfolding(crate::specs::Orientation::parallel_angles))]
+fn parallel_angles(map: AxisMap, spindle: Vec3, target: Vec3, hint: Angles) -> Option<Angles>
     ensures { result ≡ S.parallel_angles map spindle target hint }
 {
-    let Solved::Angle(total) = sp1(map.wa, spindle, target) else {
-        return RawAngles::Nothing;
-    };
+    let total = sp1(map.wa, spindle, target)?;
     match total {
-        SolvedAngle::Free => RawAngles::At(hint),
-        SolvedAngle::Fixed(turn) => RawAngles::At(shared_turn(map, turn, sigma_of(map), hint)),
+        SolvedAngle::Free => Some(hint),
+        SolvedAngle::Fixed(turn) => Some(shared_turn(map, turn, sigma_of(map), hint)),
     }
 }
 
-fn raw_of(map: AxisMap, pair: SolvedPair, hint: Angles) -> RawAngles
+fn raw_of(map: AxisMap, pair: Option<(SolvedAngle, SolvedAngle)>, hint: Angles) -> Option<Angles>
     ensures { result ≡ S.raw_of map pair hint }
 {
-    match pair {
-        SolvedPair::Angles(x, y) => RawAngles::At(map.angles(x, y, hint)),
-        SolvedPair::Nothing => RawAngles::Nothing,
-    }
+    let (x, y) = pair?;
+    Some(map.angles(x, y, hint))
 }
 
 fn two_joint_angles(map: AxisMap, spindle: Vec3, target: Vec3, hint: Angles) -> RawPair

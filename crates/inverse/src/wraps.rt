@@ -1,153 +1,124 @@
-// Whole turns: each raw angle from two turns back to two turns on, as far as its rotary may go, and each first angle paired with each second one.
-ghost use Rattle.std.specs.Prelude.{◌+◌, ◌≤◌, ◌<◌, ◌≡◌};
+// Whole turns: each raw angle from two turns back to two turns on, as far as its rotary may go, and each first angle
+// paired with each second one.
+ghost use Rattle.std.specs.Prelude.{◌+◌, ◌≤◌, ◌<◌, ◌≡◌, length};
 ghost use Rattle.inverse.specs.Wraps as S;
 
-use crate::{Angles, Candidates, Pairs, RawAngles, RawPair};
-use chain::{Kinematics, Travel};
+use crate::{Angles, Candidates, Pairs, RawPair};
+use arrayvec::ArrayVec;
+use chain::{Kinematics, RotaryLimits};
 
 // Above -180 and at most 180.
+#[tactic(auto, unfolding(crate::specs::Wraps::principal))]
 fn principal(angle: f64) -> bool
     ensures { result ≡ S.principal angle }
 {
-    if -180.0 < angle {
-        return angle <= 180.0;
-    }
-    false
+    -180.0 < angle && angle <= 180.0
 }
 
 // Within the limits, or principal where there are none.
-fn allowed(travel: Travel, angle: f64) -> bool
+fn allowed(travel: Option<RotaryLimits>, angle: f64) -> bool
     ensures { result ≡ S.allowed travel angle }
 {
     match travel {
-        Travel::Within(limits) => limits.contains(angle),
-        Travel::Unlimited => principal(angle),
+        Some(limits) => limits.contains(angle),
+        None => principal(angle),
     }
 }
 
-fn keep_allowed(travel: Travel, s: Candidates, angle: f64) -> Candidates
-    requires { s.count < 5 }
-    ensures { (result.count ≤ s.count + 1) × (S.turned result ≡ S.keep_allowed travel (S.turned s) angle) }
+#[tactic(auto, unfolding(crate::specs::Wraps::keep_allowed))]
+fn keep_allowed(travel: Option<RotaryLimits>, kept: &mut Candidates, angle: f64)
+    requires { length kept.old.items < 5 }
+    ensures list { kept.new.items ≡ S.keep_allowed travel kept.old.items angle }
+    ensures count { length kept.new.items ≤ length kept.old.items + 1 }
 {
     if allowed(travel, angle) {
-        let n = s.count;
-        let mut items = s.items;
-        items[n] = angle;
-        return Candidates {
-            count: n + 1,
-            items,
-        };
+        kept.push(angle);
     }
-    s
 }
 
-fn angle_candidates(angle: f64, travel: Travel) -> Candidates
-    ensures { (result.count ≤ 5) × (S.turned result ≡ S.angle_candidates angle travel) }
+fn angle_candidates(angle: f64, travel: Option<RotaryLimits>) -> Candidates
+    ensures list { result.items ≡ S.angle_candidates angle travel }
+    ensures count { length result.items ≤ 5 }
 {
-    let none = Candidates {
-        count: 0,
-        items: [0.0; 5],
-    };
-    let two_back = keep_allowed(travel, none, angle + -720.0);
-    let one_back = keep_allowed(travel, two_back, angle + -360.0);
-    let as_it_is = keep_allowed(travel, one_back, angle + 0.0);
-    let one_on = keep_allowed(travel, as_it_is, angle + 360.0);
-    keep_allowed(travel, one_on, angle + 720.0)
+    let mut kept = ArrayVec::new();
+    for turns in [-720.0, -360.0, 0.0, 360.0, 720.0] {
+        keep_allowed(travel, &mut kept, angle + turns);
+    }
+    kept
 }
 
 // Less than 1e-9 apart in both angles.
+#[tactic(auto, unfolding(crate::specs::Wraps::same_angles))]
 pub fn same_angles(left: Angles, right: Angles) -> bool
     ensures { result ≡ S.same_angles left right }
 {
-    if float::size(left.a0 - right.a0) < 1e-9 {
-        return float::size(left.a1 - right.a1) < 1e-9;
-    }
-    false
+    float::size(left.a0 - right.a0) < 1e-9 && float::size(left.a1 - right.a1) < 1e-9
 }
 
-fn has(s: Pairs, pair: Angles) -> bool
-    requires { s.count ≤ 50 }
-    ensures { result ≡ S.has pair (S.paired s) }
+#[tactic(auto, unfolding(crate::specs::Wraps::has))]
+fn has(pairs: &[Angles], pair: Angles) -> bool
+    ensures { result ≡ S.has pair pairs.now }
 {
-    let n = s.count;
-    let items = s.items;
-    let mut k = 0;
-    while k < n {
-        let have = items[k];
-        if same_angles(have, pair) {
-            return true;
-        }
-        k += 1;
-    }
-    false
+    pairs.iter().any(|have| same_angles(*have, pair))
 }
 
 // A pair of which there is none the same yet.
-fn add_pair(a0: f64, s: Pairs, a1: f64) -> Pairs
-    requires { s.count < 50 }
-    ensures { (result.count ≤ s.count + 1) × (S.paired result ≡ S.add_pair a0 (S.paired s) a1) }
+#[tactic(auto, unfolding(crate::specs::Wraps::add_pair))]
+fn add_pair(a0: f64, pairs: &mut Pairs, a1: f64)
+    requires { length pairs.old.items < 50 }
+    ensures list { pairs.new.items ≡ S.add_pair a0 pairs.old.items a1 }
+    ensures count { length pairs.new.items ≤ length pairs.old.items + 1 }
 {
     let pair = Angles { a0, a1 };
-    if has(s, pair) {
-        return s;
-    }
-    let n = s.count;
-    let mut items = s.items;
-    items[n] = pair;
-    Pairs {
-        count: n + 1,
-        items,
+    if !has(pairs, pair) {
+        pairs.push(pair);
     }
 }
 
 // One first angle with every second one.
-fn add_row(second: Candidates, s: Pairs, a0: f64) -> Pairs
-    requires { (second.count ≤ 5) × (s.count + 5 ≤ 50) }
-    ensures { (result.count ≤ s.count + 5) × (S.paired result ≡ S.add_row (S.turned second) (S.paired s) a0) }
+fn add_row(second: &[f64], pairs: &mut Pairs, a0: f64)
+    requires few { length second.now ≤ 5 }
+    requires room { length pairs.old.items + 5 ≤ 50 }
+    ensures list { pairs.new.items ≡ S.add_row second.now pairs.old.items a0 }
+    ensures count { length pairs.new.items ≤ length pairs.old.items + 5 }
 {
-    let n = second.count;
-    let items = second.items;
-    let mut out = s;
-    let mut k = 0;
-    while k < n {
-        let a1 = items[k];
-        out = add_pair(a0, out, a1);
-        k += 1;
+    for a1 in second {
+        add_pair(a0, pairs, *a1);
     }
-    out
 }
 
-fn add_rows(first: Candidates, second: Candidates, s: Pairs) -> Pairs
-    requires { (first.count ≤ 5) × (second.count ≤ 5) × (s.count + 25 ≤ 50) }
-    ensures { (result.count ≤ s.count + 25) × (S.paired result ≡ S.add_rows (S.turned first) (S.turned second) (S.paired s)) }
+fn add_rows(first: &[f64], second: &[f64], pairs: &mut Pairs)
+    requires few { (length first.now ≤ 5) × (length second.now ≤ 5) }
+    requires room { length pairs.old.items + 25 ≤ 50 }
+    ensures list { pairs.new.items ≡ S.add_rows first.now second.now pairs.old.items }
+    ensures count { length pairs.new.items ≤ length pairs.old.items + 25 }
 {
-    let n = first.count;
-    let items = first.items;
-    let mut out = s;
-    let mut k = 0;
-    while k < n {
-        let a0 = items[k];
-        out = add_row(second, out, a0);
-        k += 1;
+    for a0 in first {
+        add_row(second, pairs, *a0);
     }
-    out
 }
 
 // All that one raw pair gives, which may be absent.
-fn add_raw(first: Travel, second: Travel, raw: RawAngles, s: Pairs) -> Pairs
-    requires { s.count + 25 ≤ 50 }
-    ensures { (result.count ≤ s.count + 25) × (S.paired result ≡ S.add_raw first second raw (S.paired s)) }
+fn add_raw(
+    first: Option<RotaryLimits>,
+    second: Option<RotaryLimits>,
+    raw: Option<Angles>,
+    pairs: &mut Pairs,
+)
+    requires { length pairs.old.items + 25 ≤ 50 }
+    ensures list { pairs.new.items ≡ S.add_raw first second raw pairs.old.items }
+    ensures count { length pairs.new.items ≤ length pairs.old.items + 25 }
 {
-    let RawAngles::At(angles) = raw else {
-        return s;
+    let Some(angles) = raw else {
+        return;
     };
     let outer = angle_candidates(angles.a0, first);
     let inner = angle_candidates(angles.a1, second);
-    add_rows(outer, inner, s)
+    add_rows(&outer, &inner, pairs);
 }
 
 // A second rotary that the chain has not is without limits.
-pub fn second_travel(k: Kinematics) -> Travel
+pub fn second_travel(k: Kinematics) -> Option<RotaryLimits>
     ensures { result ≡ S.second_travel k }
 {
     let second = k.second;
@@ -155,18 +126,20 @@ pub fn second_travel(k: Kinematics) -> Travel
     if k.count == 2 {
         return limits;
     }
-    Travel::Unlimited
+    None
 }
 
-pub fn expand_wraps(first: Travel, second: Travel, raw: RawPair) -> Pairs
-    ensures { (result.count ≤ 50) × (S.paired result ≡ S.expand_wraps first second raw) }
+#[tactic(auto, unfolding(crate::specs::Wraps::expand_wraps))]
+pub fn expand_wraps(
+    first: Option<RotaryLimits>,
+    second: Option<RotaryLimits>,
+    raw: RawPair,
+) -> Pairs
+    ensures list { result.items ≡ S.expand_wraps first second raw }
+    ensures count { length result.items ≤ 50 }
 {
-    let none = Pairs {
-        count: 0,
-        items: [Angles { a0: 0.0, a1: 0.0 }; 50],
-    };
-    let one = raw.first;
-    let two = raw.second;
-    let of_one = add_raw(first, second, one, none);
-    add_raw(first, second, two, of_one)
+    let mut pairs = ArrayVec::new();
+    add_raw(first, second, raw.first, &mut pairs);
+    add_raw(first, second, raw.second, &mut pairs);
+    pairs
 }

@@ -3,17 +3,18 @@
 use Rattle.std.proofs.Common.{◌≡◌, ℕ, true, cond, T, ltb, List, [], ◌∷◌, length, refl, ap, ◌∙◌}
 use mathlib.Core.Bool.{and-eq-true_iff}
 use lib.Ieee.{Float, binary64, fits, of_bits, sub, le, lt, eq}
+use Rattle.std.specs.Prelude.{Err, Ok, Result}
+use Rattle.refusal.specs.declared.Refusal.{Refusal}
 use Rattle.lists.specs.Fold.{fold}
 use Rattle.lists.specs.Search.{all}
 use Rattle.float.specs.Helpers.{nought, size_of}
 use Rattle.float.proofs.Zeros.{sub_zero}
-use Rattle.chain.specs.declared.Checked.{Checked}
+use Rattle.chain.specs.Checked.{Checked}
 use Rattle.chain.specs.declared.Kinematics.{Kinematics}
 use Rattle.chain.specs.declared.Joints.{Joints}
 use Rattle.chain.specs.Check.{within, most_turned, joints_finite, joints_within}
 use Rattle.job.specs.Cable.{joint_sets, angle_of, rest_of, wind_of, turns_of, turns_within, larger, most_turns, survey, cable_check, cable_unless, cable_of, cable_number}
 use Rattle.job.specs.declared.Survey.{Survey}
-use Rattle.job.specs.declared.Cable.{Cable}
 use Rattle.job.proofs.CableLaws.{angle_within, cable_checked}
 use Rattle.job.proofs.Wound.{wind_within}
 
@@ -27,7 +28,7 @@ most_before rotary l = fold (λ (k : ℕ) (j : Joints). larger k (turns_before (
 survey_before : ℕ → List Joints → Survey
 survey_before rotary l = record { finite = all joints_finite l; within = all joints_within l; turns = most_before rotary l }
 
-pub cable_before : Kinematics → List Float → ℕ → Cable
+pub cable_before : Kinematics → List Float → ℕ → Result ℕ Refusal
 cable_before k joints rotary = cable_of k (length joints) (survey_before rotary (joint_sets joints)) rotary
 
 -- ---- one angle
@@ -56,14 +57,14 @@ module _ (rotary : ℕ) where
       ∙ ap (λ (t : ℕ). fold (λ (k : ℕ) (i : Joints). larger k (turns_before (angle_of rotary i))) (larger k t) l) same
 
 -- ---- the number
-either_way : (c : Checked) (a b : ℕ) → (c ≡ Checked.Passed → a ≡ b) → cable_unless c a ≡ cable_unless c b
-either_way Checked.Passed a b h = ap (cable_unless Checked.Passed) (h refl)
-either_way (Checked.Refused r) a b h = refl
+either_way : (c : Checked) (a b : ℕ) → (c ≡ Ok tt → a ≡ b) → cable_unless c a ≡ cable_unless c b
+either_way (Ok _) a b h = ap (cable_unless (Ok tt)) (h refl)
+either_way (Err r) a b h = refl
 
-pub cable_before_lem : (k : Kinematics) (joints : List Float) (rotary : ℕ) → rest_of k rotary ≡ nought → AnglesFit rotary (joint_sets joints)
+pub earlier_cable : (k : Kinematics) (joints : List Float) (rotary : ℕ) → rest_of k rotary ≡ nought → AnglesFit rotary (joint_sets joints)
     → cable_number k joints rotary ≡ cable_before k joints rotary
 unfolding cable_number cable_of cable_before survey_before survey cable_check most_turns most_before
-cable_before_lem k joints rotary e f =
+earlier_cable k joints rotary e f =
     either_way (cable_check k (length joints) (survey_before rotary (joint_sets joints))) _ _
     (λ passed.
     let within = (cable_checked k (length joints) (survey_before rotary (joint_sets joints)) passed).sets in

@@ -3,10 +3,11 @@
 use Rattle.std.proofs.Common.{◌≡◌, ℕ, zero, suc, ◌%◌, ◌<◌, ◌≤◌, Bool, true, false, cond, not, ◌&&◌, eqb, ltb, ◌⊎◌, List, [], ◌∷◌, length, sym, refl, ◌∙◌, inl, inr, ⊎_elim, arith, ltb-false, ltb-true, le-ltb, lt-ltb, eq-eqb, ne_eqb}
 use mathlib.Core.Bool.{and-eq-true_iff}
 use lib.Ieee.{Float}
+use Rattle.std.specs.Prelude.{Err, Ok}
 use Rattle.lists.specs.Fold.{fold}
 use Rattle.lists.specs.Search.{all}
-use Rattle.refusal.specs.Numbers as Numbers
-use Rattle.chain.specs.declared.Checked.{Checked}
+use Rattle.refusal.specs.declared.Cause.{Cause}
+use Rattle.chain.specs.Checked.{Checked}
 use Rattle.chain.specs.declared.RotaryJoint.{RotaryJoint}
 use Rattle.chain.specs.declared.Kinematics.{Kinematics}
 use Rattle.chain.specs.declared.Joints.{Joints}
@@ -14,7 +15,6 @@ use Rattle.chain.specs.Check.{demand, one_or_two, chain_check, rotary_within, ch
 use Rattle.chain.proofs.Passing.{refused_passed, then_passed, demand_passed}
 use Rattle.job.specs.Cable.{joint_sets, angle_of, rest_of, wind_of, Turned, turns_of, turns_within, larger, most_turns, survey, cable_sizes, cable_check, cable_unless, cable_of, cable_number, Some, Largest}
 use Rattle.job.specs.declared.Survey.{Survey}
-use Rattle.job.specs.declared.Cable.TheVariants as Cable
 use Rattle.job.proofs.Turns.{turned_of, turned_most}
 use Rattle.job.proofs.Wound.{wind_within}
 
@@ -80,11 +80,11 @@ module _ (rest : Float) (rest-within : within rest most_turned ≡ true) (rotary
   counted n (j ∷ l) e (inr s) = inr (counted n l ((and-eq-true_iff (joints_within j) (all joints_within l)).0 e).1 s)
 
   at_turns : (k : ℕ) (j : Joints) → turns_of (wind_of rest rotary j) ≡ k → (k ≡ 0) ⊎ Turned k (wind_of rest rotary j)
-  at_turns k j g = by_turns_lem (turned_of (wind_of rest rotary j))
+  at_turns k j g = by_turns (turned_of (wind_of rest rotary j))
     where
-      by_turns_lem : (turns_of (wind_of rest rotary j) ≡ 0) ⊎ Turned (turns_of (wind_of rest rotary j)) (wind_of rest rotary j) → (k ≡ 0) ⊎ Turned k (wind_of rest rotary j)
-      by_turns_lem (inl z) = inl (sym g ∙ z)
-      by_turns_lem (inr t) = inr (rw g at t)
+      by_turns : (turns_of (wind_of rest rotary j) ≡ 0) ⊎ Turned (turns_of (wind_of rest rotary j)) (wind_of rest rotary j) → (k ≡ 0) ⊎ Turned k (wind_of rest rotary j)
+      by_turns (inl z) = inl (sym g ∙ z)
+      by_turns (inr t) = inr (rw g at t)
 
   reached : (k : ℕ) (l : List Joints) → all joints_within l ≡ true → Some (λ (j : Joints). turns_within (wind_of rest rotary j) ≡ k) l → (k ≡ 0) ⊎ Some (λ (j : Joints). Turned k (wind_of rest rotary j)) l
   unfolding Some all
@@ -110,22 +110,22 @@ module _ (rest : Float) (rest-within : within rest most_turned ≡ true) (rotary
       by_found (inr s) = reached _ l e s
 
 -- ---- the entry
-accepted : (c : Checked) (k n : ℕ) → cable_unless c k ≡ Cable.Turns n → (c ≡ Checked.Passed) × (n ≡ k)
-accepted Checked.Passed k n e = (refl, cc)
-accepted (Checked.Refused r) k n e = (cc, cc)
+accepted : (c : Checked) (k n : ℕ) → cable_unless c k ≡ Ok n → (c ≡ Ok tt) × (n ≡ k)
+accepted (Ok _) k n e = (refl, cc)
+accepted (Err r) k n e = (cc, cc)
 
 -- what the checks say of the chain, its sizes and the path's
 pub record CableChecked (k : Kinematics) (within : Bool) : Type 0 where
-  pub chain : chain_check k ≡ Checked.Passed
+  pub chain : chain_check k ≡ Ok tt
   pub sizes : chain_within k ≡ true
   pub sets : within ≡ true
 
-pub cable_checked : (k : Kinematics) (numbers : ℕ) (s : Survey) → cable_check k numbers s ≡ Checked.Passed → CableChecked k s.within
+pub cable_checked : (k : Kinematics) (numbers : ℕ) (s : Survey) → cable_check k numbers s ≡ Ok tt → CableChecked k s.within
 unfolding cable_check cable_sizes
 cable_checked k numbers s e =
-    let a = then_passed (demand (eqb (numbers % 5) 0) Numbers.lengths_differ 0) _ e in
+    let a = then_passed (demand (eqb (numbers % 5) 0) Cause.LengthsDiffer 0) _ e in
     let b = then_passed (chain_check k) _ a.1 in
-    let c = then_passed (demand s.finite Numbers.not_finite 0) _ b.1 in
+    let c = then_passed (demand s.finite Cause.NotFinite 0) _ b.1 in
     let d = (and-eq-true_iff (chain_within k) s.within).0 (demand_passed _ _ _ c.1) in
     record { chain = b.0; sizes = d.0; sets = d.1 }
 
@@ -134,12 +134,12 @@ rotary_rest : (j : RotaryJoint) → rotary_within j ≡ true → within j.rest m
 unfolding rotary_within
 rotary_rest j e = ((and-eq-true_iff (all_within j.pivot longest) (within j.rest most_turned)).0 e).1
 
-rests_within : (k : Kinematics) (rotary : ℕ) → chain_check k ≡ Checked.Passed → chain_within k ≡ true → rotary < k.count → within (rest_of k rotary) most_turned ≡ true
+rests_within : (k : Kinematics) (rotary : ℕ) → chain_check k ≡ Ok tt → chain_within k ≡ true → rotary < k.count → within (rest_of k rotary) most_turned ≡ true
 unfolding chain_check chain_within one_or_two rest_of
 rests_within k rotary passed sizes has = by_index rotary has
   where
     counted : (not (ltb k.count 1) && ltb k.count 3) ≡ true
-    counted = demand_passed _ _ _ (then_passed (demand (not (ltb k.count 1) && ltb k.count 3) Numbers.rotary_count 0) _ passed).0
+    counted = demand_passed _ _ _ (then_passed (demand (not (ltb k.count 1) && ltb k.count 3) Cause.RotaryCount 0) _ passed).0
 
     most : k.count < 3
     most = ltb-true k.count 3 ((and-eq-true_iff (not (ltb k.count 1)) (ltb k.count 3)).0 counted).1
@@ -155,8 +155,8 @@ rests_within k rotary passed sizes has = by_index rotary has
         rw (ne_eqb (suc i) 0 (λ e. absurd (omega (arith, e)))) (rotary_rest k.second (rw (eq-eqb k.count 2 two) at both.1))
 
 -- what is answered of a rotary that the chain has is the largest; of another it is 0
-module _ (k : Kinematics) (joints : List Float) (rotary n : ℕ) (answered : cable_number k joints rotary ≡ Cable.Turns n) where
-  given : (cable_check k (length joints) (survey (rest_of k rotary) rotary (joint_sets joints)) ≡ Checked.Passed) × (n ≡ cond (ltb rotary k.count) (most_turns (rest_of k rotary) rotary (joint_sets joints)) 0)
+module _ (k : Kinematics) (joints : List Float) (rotary n : ℕ) (answered : cable_number k joints rotary ≡ Ok n) where
+  given : (cable_check k (length joints) (survey (rest_of k rotary) rotary (joint_sets joints)) ≡ Ok tt) × (n ≡ cond (ltb rotary k.count) (most_turns (rest_of k rotary) rotary (joint_sets joints)) 0)
   unfolding cable_number cable_of survey
   given = accepted (cable_check k (length joints) (survey (rest_of k rotary) rotary (joint_sets joints))) _ n answered
 
@@ -171,17 +171,17 @@ module _ (k : Kinematics) (joints : List Float) (rotary n : ℕ) (answered : cab
   cable_none h = rw (le-ltb rotary k.count h) at given.1
 
 -- ---- joint sets within the sizes are answered: of a chain that passes its checks no cable number is refused
-unless_turns : (c : Checked) (n : ℕ) → c ≡ Checked.Passed → cable_unless c n ≡ Cable.Turns n
-unless_turns Checked.Passed n e = refl
-unless_turns (Checked.Refused r) n e = absurd (refused_passed e)
+unless_turns : (c : Checked) (n : ℕ) → c ≡ Ok tt → cable_unless c n ≡ Ok n
+unless_turns (Ok _) n e = refl
+unless_turns (Err r) n e = absurd (refused_passed e)
 
-module _ (k : Kinematics) (joints : List Float) (whole : length joints % 5 ≡ 0) (chain : chain_check k ≡ Checked.Passed) (within : chain_within k ≡ true)
+module _ (k : Kinematics) (joints : List Float) (whole : length joints % 5 ≡ 0) (chain : chain_check k ≡ Ok tt) (within : chain_within k ≡ true)
     (numbers : all joints_finite (joint_sets joints) ≡ true) (sizes : all joints_within (joint_sets joints) ≡ true) where
-  cable_passed : (rotary : ℕ) → cable_check k (length joints) (survey (rest_of k rotary) rotary (joint_sets joints)) ≡ Checked.Passed
+  cable_passed : (rotary : ℕ) → cable_check k (length joints) (survey (rest_of k rotary) rotary (joint_sets joints)) ≡ Ok tt
   unfolding cable_check cable_sizes survey
   cable_passed rotary = rw (eq-eqb (length joints % 5) 0 whole, chain, numbers, within, sizes)
 
-  pub cable_answered : (rotary : ℕ) → (n : ℕ) × (cable_number k joints rotary ≡ Cable.Turns n)
+  pub cable_answered : (rotary : ℕ) → (n : ℕ) × (cable_number k joints rotary ≡ Ok n)
   unfolding cable_number cable_of
   cable_answered rotary =
       let s = survey (rest_of k rotary) rotary (joint_sets joints) in

@@ -2,38 +2,39 @@
 -- every rest angle is +0.0 (`word-nought`, `rests-nought`). A word other than 0 and 1 is refused behind everything that
 -- is judged of the same places with the word 0 (`other_word`).
 use Rattle.std.proofs.Common.{◌≡◌, ℕ, ◌+◌, ◌≤◌, Bool, true, false, cond, eqb, ltb, leb, List, [], ◌∷◌, length, refl, ap, ◌∙◌, arith, le-ltb, ne_eqb}
+use Rattle.std.specs.Prelude.{Err, Ok, Result}
 use Rattle.float.specs.Helpers.{nought}
 use Rattle.refusal.specs.declared.Refusal.{Refusal}
 use Rattle.refusal.specs.Numbers as Numbers
-use Rattle.chain.specs.declared.Checked.{Checked}
+use Rattle.refusal.specs.declared.Cause.{Cause}
+use Rattle.chain.specs.Checked.{Checked}
 use Rattle.chain.specs.Bytes.{byte_at}
 use Rattle.chain.specs.Check.{demand, then, first_refusal, one_or_two}
 use Rattle.chain.specs.ChainBytes.{second_field, rest_at, rotary_at, no_rotary}
 use Rattle.job.specs.JobBytes.{trailer, chain_field, poses_field, word_field, word_length, sized, places_in, chain_end, poses_end, apart, placed, chain_part, second_in, chain_in, job_at, job_unless, job_fields, job_from, read_job}
 use Rattle.job.specs.declared.Places.{Places}
 use Rattle.job.specs.declared.Job.{Job}
-use Rattle.job.specs.declared.JobRead.{JobRead}
 use Rattle.job.proofs.JobWithin.{job_is}
 
 -- ---- the reader as it was: records of 72 bytes, and a word that must be 0
 placed_before : List ℕ → Places → ℕ → Checked
 placed_before bytes p count =
     first_refusal
-    (demand (ltb p.chain (trailer bytes)) Numbers.malformed (chain_field (trailer bytes))
-    ∷ demand (one_or_two count) Numbers.rotary_count 0
-    ∷ demand (leb (chain_end 72 p count) (trailer bytes)) Numbers.malformed (chain_field (trailer bytes))
-    ∷ demand (leb (poses_end p) (trailer bytes)) Numbers.malformed (poses_field (trailer bytes))
-    ∷ demand (apart p (chain_end 72 p count) (poses_end p)) Numbers.malformed (poses_field (trailer bytes))
-    ∷ demand (eqb p.word 0) Numbers.malformed (word_field (trailer bytes))
+    (demand (ltb p.chain (trailer bytes)) Cause.Malformed (chain_field (trailer bytes))
+    ∷ demand (one_or_two count) Cause.RotaryCount 0
+    ∷ demand (leb (chain_end 72 p count) (trailer bytes)) Cause.Malformed (chain_field (trailer bytes))
+    ∷ demand (leb (poses_end p) (trailer bytes)) Cause.Malformed (poses_field (trailer bytes))
+    ∷ demand (apart p (chain_end 72 p count) (poses_end p)) Cause.Malformed (poses_field (trailer bytes))
+    ∷ demand (eqb p.word 0) Cause.Malformed (word_field (trailer bytes))
     ∷ [])
 
 fields_before : List ℕ → Places → ℕ → Checked
-fields_before bytes p count = first_refusal (demand (sized (length bytes)) Numbers.malformed 0 ∷ placed_before bytes p count ∷ chain_part 72 bytes p count ∷ [])
+fields_before bytes p count = first_refusal (demand (sized (length bytes)) Cause.Malformed 0 ∷ placed_before bytes p count ∷ chain_part 72 bytes p count ∷ [])
 
-from_before : List ℕ → Places → ℕ → JobRead
+from_before : List ℕ → Places → ℕ → Result Job Refusal
 from_before bytes p count = job_unless (fields_before bytes p count) (job_at 72 bytes p (chain_in 72 bytes p count))
 
-pub read_before : List ℕ → JobRead
+pub read_before : List ℕ → Result Job Refusal
 read_before bytes = from_before bytes (places_in bytes) (byte_at bytes (places_in bytes).chain)
 
 -- ---- the word 0
@@ -72,7 +73,7 @@ second_rest bytes p count = go (eqb count 2)
     go true = there
     go false = absent
 
-pub rests_nought : (bytes : List ℕ) (j : Job) → (places_in bytes).word ≡ 0 → read_job bytes ≡ JobRead.Job j → (j.chain.first.rest ≡ nought) × (j.chain.second.rest ≡ nought)
+pub rests_nought : (bytes : List ℕ) (j : Job) → (places_in bytes).word ≡ 0 → read_job bytes ≡ Ok j → (j.chain.first.rest ≡ nought) × (j.chain.second.rest ≡ nought)
 unfolding job_at
 rests_nought bytes j e read =
     let p = places_in bytes in
@@ -87,31 +88,31 @@ abbrev with_word : Places → ℕ → Places
 with_word p word = record { chain = p.chain; poses = p.poses; count = p.count; word = word }
 
 last_refused : (a b c d e : Checked) (r : Refusal)
-    → then a (then b (then c (then d (then e (Checked.Refused r))))) ≡ then (then a (then b (then c (then d (then e Checked.Passed))))) (Checked.Refused r)
-last_refused (Checked.Refused s) b c d e r = refl
-last_refused Checked.Passed (Checked.Refused s) c d e r = refl
-last_refused Checked.Passed Checked.Passed (Checked.Refused s) d e r = refl
-last_refused Checked.Passed Checked.Passed Checked.Passed (Checked.Refused s) e r = refl
-last_refused Checked.Passed Checked.Passed Checked.Passed Checked.Passed (Checked.Refused s) r = refl
-last_refused Checked.Passed Checked.Passed Checked.Passed Checked.Passed Checked.Passed r = refl
+    → then a (then b (then c (then d (then e (Err r))))) ≡ then (then a (then b (then c (then d (then e (Ok tt)))))) (Err r)
+last_refused (Err s) b c d e r = refl
+last_refused (Ok _) (Err s) c d e r = refl
+last_refused (Ok _) (Ok _) (Err s) d e r = refl
+last_refused (Ok _) (Ok _) (Ok _) (Err s) e r = refl
+last_refused (Ok _) (Ok _) (Ok _) (Ok _) (Err s) r = refl
+last_refused (Ok _) (Ok _) (Ok _) (Ok _) (Ok _) r = refl
 
 not_one : (word : ℕ) → 2 ≤ word → word_length word ≡ 72
 unfolding word_length
 not_one word h = rw (ne_eqb word 1 (λ e. absurd (omega (arith, h, e))))
 
 judged : (bytes : List ℕ) (p : Places) (count : ℕ) → 2 ≤ p.word
-    → placed 72 bytes p count ≡ then (placed 72 bytes (with_word p 0) count) (Checked.Refused (Numbers.refusal Numbers.malformed (word_field (trailer bytes))))
+    → placed 72 bytes p count ≡ then (placed 72 bytes (with_word p 0) count) (Err (Numbers.refusal Cause.Malformed (word_field (trailer bytes))))
 unfolding placed chain_end poses_end apart
 judged bytes p count h =
     rw (le-ltb p.word 2 h)
     (last_refused
-    (demand (ltb p.chain (trailer bytes)) Numbers.malformed (chain_field (trailer bytes)))
-    (demand (one_or_two count) Numbers.rotary_count 0)
-    (demand (leb (chain_end 72 p count) (trailer bytes)) Numbers.malformed (chain_field (trailer bytes)))
-    (demand (leb (poses_end p) (trailer bytes)) Numbers.malformed (poses_field (trailer bytes)))
-    (demand (apart p (chain_end 72 p count) (poses_end p)) Numbers.malformed (poses_field (trailer bytes)))
-    (Numbers.refusal Numbers.malformed (word_field (trailer bytes))))
+    (demand (ltb p.chain (trailer bytes)) Cause.Malformed (chain_field (trailer bytes)))
+    (demand (one_or_two count) Cause.RotaryCount 0)
+    (demand (leb (chain_end 72 p count) (trailer bytes)) Cause.Malformed (chain_field (trailer bytes)))
+    (demand (leb (poses_end p) (trailer bytes)) Cause.Malformed (poses_field (trailer bytes)))
+    (demand (apart p (chain_end 72 p count) (poses_end p)) Cause.Malformed (poses_field (trailer bytes)))
+    (Numbers.refusal Cause.Malformed (word_field (trailer bytes))))
 
 pub other_word : (bytes : List ℕ) (p : Places) (count : ℕ) → 2 ≤ p.word
-    → placed (word_length p.word) bytes p count ≡ then (placed 72 bytes (with_word p 0) count) (Checked.Refused (Numbers.refusal Numbers.malformed (word_field (trailer bytes))))
+    → placed (word_length p.word) bytes p count ≡ then (placed 72 bytes (with_word p 0) count) (Err (Numbers.refusal Cause.Malformed (word_field (trailer bytes))))
 other_word bytes p count h = ap (λ (w : ℕ). placed w bytes p count) (not_one p.word h) ∙ judged bytes p count h

@@ -2,10 +2,12 @@
 -- and the trailer's word, are read alike, refused ones too; and where they agree on the poses, they have the same poses.
 use Rattle.std.proofs.Common.{◌≡◌, ℕ, zero, suc, ◌+◌, ◌-◌, ◌*◌, ◌<◌, ◌≤◌, Bool, true, false, cond, eqb, List, length, sym, refl, ◌∙◌, arith, le-ltb, lt-ltb, eqb-true}
 use borrow.Author.Tests.{lt-leb}
+use Rattle.std.specs.Prelude.{Err, Ok}
 use Rattle.float.specs.Helpers.{nought}
 use Rattle.refusal.specs.declared.Refusal.{Refusal}
 use Rattle.refusal.specs.Numbers as Numbers
-use Rattle.chain.specs.declared.Checked.{Checked}
+use Rattle.refusal.specs.declared.Cause.{Cause}
+use Rattle.chain.specs.Checked.{Checked}
 use Rattle.chain.specs.declared.Kinematics.{Kinematics}
 use Rattle.chain.specs.Bytes.{byte_at, little_endian, number_at, vector_at, spare}
 use Rattle.chain.specs.Check.{demand, then}
@@ -15,8 +17,7 @@ use Rattle.job.specs.JobBytes.{word_length, sized, places_in, placed, rotary_par
 use Rattle.job.specs.JobPoses.{numbers_at, poses_of}
 use Rattle.job.specs.declared.Places.{Places}
 use Rattle.job.specs.declared.Job.{Job}
-use Rattle.job.specs.declared.JobRead.TheVariants as JobRead
-use Rattle.job.proofs.JobWithin.{word_wide, placed_passed, within, chain_at_lem, chain_long}
+use Rattle.job.proofs.JobWithin.{word_wide, placed_passed, within, chain_start, chain_long}
 
 -- the bytes from an offset on and before another are the same
 pub Agree : List ℕ → List ℕ → ℕ → ℕ → Type 0
@@ -117,7 +118,7 @@ module _ (w : ℕ) (wide : 72 ≤ w) (a b : List ℕ) (p : Places) (count : ℕ)
   unfolding second_part
   same_second_part = by_count (eqb count 2) refl
     where
-      by_count : (t : Bool) → eqb count 2 ≡ t → cond (eqb count 2) (rotary_part a (p.chain + (8 + w)) 1) Checked.Passed ≡ cond (eqb count 2) (rotary_part b (p.chain + (8 + w)) 1) Checked.Passed
+      by_count : (t : Bool) → eqb count 2 ≡ t → cond (eqb count 2) (rotary_part a (p.chain + (8 + w)) 1) (Ok tt) ≡ cond (eqb count 2) (rotary_part b (p.chain + (8 + w)) 1) (Ok tt)
       by_count true e =
           let h = room_of_two (eqb-true count 2 e) in
           rw (same_part a b p.chain (p.chain + length_of_chain w count) agree (p.chain + (8 + w)) 1 (omega arith) (omega (arith, h, wide)))
@@ -198,19 +199,19 @@ module _ (w : ℕ) (wide : 72 ≤ w) (a b : List ℕ) (least : 40 ≤ length a) 
       )
 
   -- what the trailer says is refused before the chain is read
-  refused_alike : (p : Places) (count : ℕ) (r : Refusal) → placed w a p count ≡ Checked.Refused r → job_from w b p count ≡ job_from w a p count
+  refused_alike : (p : Places) (count : ℕ) (r : Refusal) → placed w a p count ≡ Err r → job_from w b p count ≡ job_from w a p count
   unfolding job_from job_fields
   refused_alike p count r e = rw (long, by_length w a b p count long, e) (either_way (sized (length a)))
     where
       either_way : (t : Bool)
-          → job_unless (then (demand t Numbers.malformed 0) (Checked.Refused r)) (job_at w b p (chain_in w b p count))
-          ≡ job_unless (then (demand t Numbers.malformed 0) (Checked.Refused r)) (job_at w a p (chain_in w a p count))
+          → job_unless (then (demand t Cause.Malformed 0) (Err r)) (job_at w b p (chain_in w b p count))
+          ≡ job_unless (then (demand t Cause.Malformed 0) (Err r)) (job_at w a p (chain_in w a p count))
       either_way true = refl
       either_way false = refl
 
   either_alike : (p : Places) (count : ℕ) (c : Checked) → placed w a p count ≡ c → Agree a b p.chain (p.chain + length_of_chain w count) → job_from w b p count ≡ job_from w a p count
-  either_alike p count Checked.Passed e chains = jobs_alike p count (at_least_one count (placed_passed w a p count e).counted) chains
-  either_alike p count (Checked.Refused r) e chains = refused_alike p count r e
+  either_alike p count (Ok _) e chains = jobs_alike p count (at_least_one count (placed_passed w a p count e).counted) chains
+  either_alike p count (Err r) e chains = refused_alike p count r e
 
 module _ (a b : List ℕ) (least : 40 ≤ length a) (long : length b ≡ length a) (trailers : Agree a b (length a - 40) (length a)) where
   abbrev w : ℕ
@@ -225,21 +226,21 @@ module _ (a b : List ℕ) (least : 40 ≤ length a) (long : length b ≡ length 
       (either_alike w (word_wide p.word) a b least long trailers p (byte_at a p.chain) (placed w a p (byte_at a p.chain)) refl chains)
 
 -- the same by a job that was read
-module _ (a b : List ℕ) (j : Job) (read : read_job a ≡ JobRead.Job j) (long : length b ≡ length a)
+module _ (a b : List ℕ) (j : Job) (read : read_job a ≡ Ok j) (long : length b ≡ length a)
     (trailers : Agree a b (length a - 40) (length a)) (chains : Agree a b j.chain_at (j.chain_at + j.chain_length)) where
-  pub read_alike : read_job b ≡ JobRead.Job j
-  read_alike = files_alike a b (within a j read).least long trailers (rw (chain_at_lem a j read, chain_long a j read) at chains) ∙ read
+  pub read_alike : read_job b ≡ Ok j
+  read_alike = files_alike a b (within a j read).least long trailers (rw (chain_start a j read, chain_long a j read) at chains) ∙ read
 
 pub poses_alike : (a b : List ℕ) (j : Job) → Agree a b j.poses_at (j.poses_at + 48 * j.poses) → poses_of b j ≡ poses_of a j
 unfolding poses_of
 poses_alike a b j agree = sym (same_numbers a b j.poses_at (j.poses_at + 48 * j.poses) agree (6 * j.poses) j.poses_at (omega arith) (omega arith))
 
 -- ---- 29 at offset 0: every length under 40, and every length over 65,536
-pub too_short : (bytes : List ℕ) → length bytes < 40 → read_job bytes ≡ JobRead.Refused (Numbers.refusal Numbers.malformed 0)
+pub too_short : (bytes : List ℕ) → length bytes < 40 → read_job bytes ≡ Err (Numbers.refusal Cause.Malformed 0)
 unfolding read_job job_from job_fields sized
 too_short bytes h = rw (lt-ltb (length bytes) 40 h)
 
-pub too_long : (bytes : List ℕ) → 65536 < length bytes → read_job bytes ≡ JobRead.Refused (Numbers.refusal Numbers.malformed 0)
+pub too_long : (bytes : List ℕ) → 65536 < length bytes → read_job bytes ≡ Err (Numbers.refusal Cause.Malformed 0)
 unfolding read_job job_from job_fields sized
 too_long bytes h =
     let s : 40 ≤ length bytes = omega (arith, h) in

@@ -1,10 +1,9 @@
 -- A job has one chain, whoever reads it: the bytes of a job's chain by themselves, as a caller of the library hands
 -- them over, are read as the chain that the program takes from the job, with records of either length. Assumes nothing.
 use Rattle.std.proofs.Common.{◌≡◌, ℕ, zero, suc, ◌+◌, ◌*◌, ◌<◌, ◌≤◌, Bool, true, false, cond, eqb, List, length, take, drop, sym, refl, ap, ◌∙◌, arith, length-drop, length-take-le, get_or-drop, get_or-take, le-ltb, eq-eqb, ne_eqb, eqb-true}
+use Rattle.std.specs.Prelude.{Ok}
 use Rattle.float.specs.Helpers.{nought}
-use Rattle.refusal.specs.Numbers as Numbers
-use Rattle.chain.specs.declared.Checked.TheVariants.{Passed}
-use Rattle.chain.specs.declared.ChainRead.TheVariants.{Chain}
+use Rattle.refusal.specs.declared.Cause.{Cause}
 use Rattle.chain.specs.Bytes.{byte_at, little_endian, number_at, vector_at, spare}
 use Rattle.chain.specs.Check.{demand, one_or_two, known_letter}
 use Rattle.chain.specs.ChainBytes.{length_of_chain, zeros, flag, rotary_fields, second_fields, chain_fields, travel_at, rest_at, rotary_at, no_rotary, second_at, chain_at, record_length, read_count, read_counted, read_chain}
@@ -13,8 +12,7 @@ use Rattle.chain.proofs.Passing.{then_passed, demand_passed}
 use Rattle.job.specs.JobBytes.{word_length, sized, places_in, placed, rotary_part, second_part, chain_part, second_in, chain_in, job_at, job_fields, read_job}
 use Rattle.job.specs.declared.Places.{Places}
 use Rattle.job.specs.declared.Job.{Job}
-use Rattle.job.specs.declared.JobRead.TheVariants as JobRead
-use Rattle.job.proofs.JobWithin.{word_wide, fields_passed, job_is, parts, chain_at_lem, chain_long}
+use Rattle.job.proofs.JobWithin.{word_wide, fields_passed, job_is, parts, chain_start, chain_long}
 use Rattle.job.proofs.JobBetween.{more, two}
 
 -- ---- what is read of a part of some bytes, which begins at an offset: `o` is the offset in the bytes of i in the part
@@ -40,14 +38,14 @@ module _ (part bytes : List ℕ) (at : ℕ) (same : (i : ℕ) → i < length par
         part_number (i + 16) (o + 16) (omega arith) (omega arith),
       )
 
-  part_zeros : (n i o : ℕ) → o ≡ at + i → i + n ≤ length part → zeros bytes o n ≡ Passed → zeros part i n ≡ Passed
+  part_zeros : (n i o : ℕ) → o ≡ at + i → i + n ≤ length part → zeros bytes o n ≡ Ok tt → zeros part i n ≡ Ok tt
   unfolding zeros
   part_zeros zero i o e h z = refl
   part_zeros (suc n) i o e h z =
-      let p = then_passed (demand (eqb (byte_at bytes o) 0) Numbers.malformed o) _ z in
+      let p = then_passed (demand (eqb (byte_at bytes o) 0) Cause.Malformed o) _ z in
       rw (
         part_byte i o e (omega arith),
-        demand_passed (eqb (byte_at bytes o) 0) Numbers.malformed o p.0,
+        demand_passed (eqb (byte_at bytes o) 0) Cause.Malformed o p.0,
         part_zeros n (i + 1) (o + 1) (omega arith) (omega arith) p.1,
       )
 
@@ -59,23 +57,23 @@ module _ (part bytes : List ℕ) (at : ℕ) (same : (i : ℕ) → i < length par
   unfolding spare
   part_spare switch i s o d e g h = rw (part_byte switch s d g, part_whole 8 i o e h)
 
-  part_fields : (i o : ℕ) → o ≡ at + i → i + 72 ≤ length part → rotary_fields bytes o ≡ Passed → rotary_fields part i ≡ Passed
+  part_fields : (i o : ℕ) → o ≡ at + i → i + 72 ≤ length part → rotary_fields bytes o ≡ Ok tt → rotary_fields part i ≡ Ok tt
   unfolding rotary_fields
   part_fields i o e h z =
-      let a = then_passed (demand (flag bytes (o + 1)) Numbers.malformed (o + 1)) _ z in
-      let b = then_passed (demand (flag bytes (o + 2)) Numbers.malformed (o + 2)) _ a.1 in
+      let a = then_passed (demand (flag bytes (o + 1)) Cause.Malformed (o + 1)) _ z in
+      let b = then_passed (demand (flag bytes (o + 2)) Cause.Malformed (o + 2)) _ a.1 in
       let c = then_passed (zeros bytes (o + 3) 5) _ b.1 in
-      let d = then_passed (demand (spare bytes (o + 2) (o + 56)) Numbers.malformed (o + 56)) _ c.1 in
+      let d = then_passed (demand (spare bytes (o + 2) (o + 56)) Cause.Malformed (o + 56)) _ c.1 in
       rw (
         part_flag (i + 1) (o + 1) (omega arith) (omega arith),
-        demand_passed (flag bytes (o + 1)) Numbers.malformed (o + 1) a.0,
+        demand_passed (flag bytes (o + 1)) Cause.Malformed (o + 1) a.0,
         part_flag (i + 2) (o + 2) (omega arith) (omega arith),
-        demand_passed (flag bytes (o + 2)) Numbers.malformed (o + 2) b.0,
+        demand_passed (flag bytes (o + 2)) Cause.Malformed (o + 2) b.0,
         part_zeros 5 (i + 3) (o + 3) (omega arith) (omega arith) c.0,
         part_spare (i + 2) (i + 56) (o + 2) (o + 56) (omega arith) (omega arith) (omega arith) (omega arith),
-        demand_passed (spare bytes (o + 2) (o + 56)) Numbers.malformed (o + 56) d.0,
+        demand_passed (spare bytes (o + 2) (o + 56)) Cause.Malformed (o + 56) d.0,
         part_spare (i + 2) (i + 64) (o + 2) (o + 64) (omega arith) (omega arith) (omega arith) (omega arith),
-        demand_passed (spare bytes (o + 2) (o + 64)) Numbers.malformed (o + 64) d.1,
+        demand_passed (spare bytes (o + 2) (o + 64)) Cause.Malformed (o + 64) d.1,
       )
 
   part_travel : (i o : ℕ) → o ≡ at + i → i + 72 ≤ length part → travel_at part i ≡ travel_at bytes o
@@ -108,33 +106,33 @@ module _ (part bytes : List ℕ) (at : ℕ) (same : (i : ℕ) → i < length par
       )
 
 -- ---- a rotary that a job's reader lets by, without its letter, which the library's chain check tests
-lettered : (bytes : List ℕ) (at i : ℕ) → rotary_part bytes at i ≡ Passed → rotary_fields bytes at ≡ Passed
+lettered : (bytes : List ℕ) (at i : ℕ) → rotary_part bytes at i ≡ Ok tt → rotary_fields bytes at ≡ Ok tt
 unfolding rotary_part
-lettered bytes at i h = (then_passed (demand (known_letter (byte_at bytes at)) Numbers.rotary_letter i) _ h).1
+lettered bytes at i h = (then_passed (demand (known_letter (byte_at bytes at)) Cause.RotaryLetter i) _ h).1
 
 -- ---- the chain: as many bytes as its count asks for, which are those of the job from the chain's offset on
 module _ (w : ℕ) (wide : 72 ≤ w) (bytes part : List ℕ) (p : Places) (count : ℕ) (counted : one_or_two count ≡ true)
     (first : count ≡ byte_at bytes p.chain) (long : length part ≡ length_of_chain w count) (known : record_length (length part) count ≡ w)
     (same : (i : ℕ) → i < length part → byte_at part i ≡ byte_at bytes (p.chain + i))
-    (passed : chain_part w bytes p count ≡ Passed) where
+    (passed : chain_part w bytes p count ≡ Ok tt) where
   room : 32 + w ≤ length part
   room = let h = more w count (at_least_one count counted) in omega (arith, h, long)
 
   room_of_two : count ≡ 2 → 32 + (w + w) ≤ length part
   room_of_two e = let h = two w count e in omega (arith, h, long)
 
-  second_fields_lem : second_part w bytes p count ≡ Passed → second_fields w part count ≡ Passed
+  second_read : second_part w bytes p count ≡ Ok tt → second_fields w part count ≡ Ok tt
   unfolding second_part second_fields
-  second_fields_lem = by_count (eqb count 2) refl
+  second_read = by_count (eqb count 2) refl
     where
-      by_count : (t : Bool) → eqb count 2 ≡ t → cond (eqb count 2) (rotary_part bytes (p.chain + (8 + w)) 1) Passed ≡ Passed
-          → cond (eqb count 2) (rotary_fields part (8 + w)) Passed ≡ Passed
+      by_count : (t : Bool) → eqb count 2 ≡ t → cond (eqb count 2) (rotary_part bytes (p.chain + (8 + w)) 1) (Ok tt) ≡ Ok tt
+          → cond (eqb count 2) (rotary_fields part (8 + w)) (Ok tt) ≡ Ok tt
       by_count true e h =
           let r = room_of_two (eqb-true count 2 e) in
           rw e (part_fields part bytes p.chain same (8 + w) (p.chain + (8 + w)) refl (omega (arith, r, wide)) (lettered bytes (p.chain + (8 + w)) 1 (rw e at h)))
       by_count false e h = rw e
 
-  fields_good : chain_fields w part count ≡ Passed
+  fields_good : chain_fields w part count ≡ Ok tt
   unfolding chain_fields chain_part
   fields_good =
       let a = then_passed (zeros bytes (p.chain + 1) 7) _ passed in
@@ -143,7 +141,7 @@ module _ (w : ℕ) (wide : 72 ≤ w) (bytes part : List ℕ) (p : Places) (count
       rw (
         part_zeros part bytes p.chain same 7 1 (p.chain + 1) refl (omega (arith, r, wide)) a.0,
         part_fields part bytes p.chain same 8 (p.chain + 8) refl (omega (arith, r, wide)) (lettered bytes (p.chain + 8) 0 b.0),
-        second_fields_lem b.1,
+        second_read b.1,
       )
 
   second_is : second_at w part count ≡ second_in w bytes p count
@@ -166,7 +164,7 @@ module _ (w : ℕ) (wide : 72 ≤ w) (bytes part : List ℕ) (p : Places) (count
         part_vector part bytes p.chain same (8 + w * count) (p.chain + (8 + w * count)) refl (omega (arith, long)),
       )
 
-  read_alone : read_chain part ≡ Chain (chain_in w bytes p count)
+  read_alone : read_chain part ≡ Ok (chain_in w bytes p count)
   unfolding read_chain read_counted read_count
   read_alone =
       let r = room in
@@ -190,46 +188,46 @@ record_known word count some = go (eqb word 1)
 abbrev pub chain_bytes : List ℕ → Job → List ℕ
 chain_bytes bytes j = take j.chain_length (drop j.chain_at bytes)
 
-module _ (bytes : List ℕ) (j : Job) (read : read_job bytes ≡ JobRead.Job j) where
+module _ (bytes : List ℕ) (j : Job) (read : read_job bytes ≡ Ok j) where
   abbrev places : Places
   places = places_in bytes
 
   abbrev w : ℕ
   w = word_length (places_in bytes).word
 
-  abbrev rotary_count_lem : ℕ
-  rotary_count_lem = byte_at bytes (places_in bytes).chain
+  abbrev count_read : ℕ
+  count_read = byte_at bytes (places_in bytes).chain
 
   abbrev alone : List ℕ
-  alone = take (length_of_chain w rotary_count_lem) (drop places.chain bytes)
+  alone = take (length_of_chain w count_read) (drop places.chain bytes)
 
-  alone_long : length alone ≡ length_of_chain w rotary_count_lem
+  alone_long : length alone ≡ length_of_chain w count_read
   alone_long =
-      let h = (parts bytes j read).chain_within_lem in
+      let h = (parts bytes j read).chain_fits in
       let e = length-drop places.chain bytes in
-      length-take-le (length_of_chain w rotary_count_lem) (drop places.chain bytes) (omega (arith, h, e))
+      length-take-le (length_of_chain w count_read) (drop places.chain bytes) (omega (arith, h, e))
 
-  alone_known : record_length (length alone) rotary_count_lem ≡ w
+  alone_known : record_length (length alone) count_read ≡ w
   alone_known =
-      ap (λ (n : ℕ). record_length n rotary_count_lem) alone_long
-      ∙ record_known (places_in bytes).word rotary_count_lem (at_least_one rotary_count_lem (parts bytes j read).counted)
+      ap (λ (n : ℕ). record_length n count_read) alone_long
+      ∙ record_known (places_in bytes).word count_read (at_least_one count_read (parts bytes j read).counted)
 
   alone_same : (i : ℕ) → i < length alone → byte_at alone i ≡ byte_at bytes (places.chain + i)
   alone_same i h =
       let l = alone_long in
-      get_or-take (length_of_chain w rotary_count_lem) (drop places.chain bytes) i 0 (omega (arith, h, l)) ∙ get_or-drop places.chain bytes i 0
+      get_or-take (length_of_chain w count_read) (drop places.chain bytes) i 0 (omega (arith, h, l)) ∙ get_or-drop places.chain bytes i 0
 
-  alone_passed : chain_part w bytes places rotary_count_lem ≡ Passed
+  alone_passed : chain_part w bytes places count_read ≡ Ok tt
   unfolding job_fields
   alone_passed =
-      let a = then_passed (demand (sized (length bytes)) Numbers.malformed 0) _ (fields_passed bytes j read) in
-      (then_passed (placed w bytes places rotary_count_lem) _ a.1).1
+      let a = then_passed (demand (sized (length bytes)) Cause.Malformed 0) _ (fields_passed bytes j read) in
+      (then_passed (placed w bytes places count_read) _ a.1).1
 
-  job_chain : j.chain ≡ chain_in w bytes places rotary_count_lem
+  job_chain : j.chain ≡ chain_in w bytes places count_read
   unfolding job_at
   job_chain = rw (job_is bytes j read)
 
-  pub one_chain : read_chain (chain_bytes bytes j) ≡ Chain j.chain
+  pub one_chain : read_chain (chain_bytes bytes j) ≡ Ok j.chain
   one_chain =
-      rw (chain_at_lem bytes j read, chain_long bytes j read, job_chain)
-      (read_alone w (word_wide (places_in bytes).word) bytes alone places rotary_count_lem (parts bytes j read).counted refl alone_long alone_known alone_same alone_passed)
+      rw (chain_start bytes j read, chain_long bytes j read, job_chain)
+      (read_alone w (word_wide (places_in bytes).word) bytes alone places count_read (parts bytes j read).counted refl alone_long alone_known alone_same alone_passed)

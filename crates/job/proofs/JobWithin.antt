@@ -2,8 +2,9 @@
 use Rattle.std.proofs.Common.{◌≡◌, ℕ, zero, suc, ◌+◌, ◌-◌, ◌*◌, ◌<◌, ◌≤◌, Bool, true, false, cond, not, ◌||◌, eqb, ltb, leb, ◌⊎◌, List, length, get_or, refl, inl, inr, arith, lit≤, ltb-false, ltb-true, eqb-true, leb-true}
 use mathlib.Core.Bool.{and-eq-true_iff, false≢true}
 use borrow.Author.Tests.{not-true}
-use Rattle.refusal.specs.Numbers as Numbers
-use Rattle.chain.specs.declared.Checked.{Checked}
+use Rattle.std.specs.Prelude.{Err, Ok}
+use Rattle.refusal.specs.declared.Cause.{Cause}
+use Rattle.chain.specs.Checked.{Checked}
 use Rattle.chain.specs.Bytes.{byte_at, little_endian}
 use Rattle.chain.specs.Check.{demand, one_or_two}
 use Rattle.chain.specs.ChainBytes.{length_of_chain}
@@ -12,7 +13,6 @@ use Rattle.chain.proofs.Passing.{then_passed, demand_passed}
 use Rattle.job.specs.JobBytes.{four, trailer, word_length, sized, places_in, chain_end, poses_end, apart, placed, chain_in, job_at, job_unless, job_fields, job_from, read_job}
 use Rattle.job.specs.declared.Places.{Places}
 use Rattle.job.specs.declared.Job.{Job}
-use Rattle.job.specs.declared.JobRead.{JobRead}
 
 -- four bytes
 pub four_is : (l : List ℕ) (at : ℕ)
@@ -44,40 +44,40 @@ word_wide word = (either_length (eqb word 1)).0
 pub record Placed (w : ℕ) (bytes : List ℕ) (p : Places) (count : ℕ) : Type 0 where
   pub inside : p.chain < trailer bytes
   pub counted : one_or_two count ≡ true
-  pub chain_within_lem : p.chain + length_of_chain w count ≤ trailer bytes
+  pub chain_fits : p.chain + length_of_chain w count ≤ trailer bytes
   pub poses_within : p.poses + 48 * p.count ≤ trailer bytes
   pub apart_from : apart p (p.chain + length_of_chain w count) (p.poses + 48 * p.count) ≡ true
   pub known_word : p.word < 2
 
-pub placed_passed : (w : ℕ) (bytes : List ℕ) (p : Places) (count : ℕ) → placed w bytes p count ≡ Checked.Passed → Placed w bytes p count
+pub placed_passed : (w : ℕ) (bytes : List ℕ) (p : Places) (count : ℕ) → placed w bytes p count ≡ Ok tt → Placed w bytes p count
 unfolding placed chain_end poses_end
 placed_passed w bytes p count e =
     let t = trailer bytes in
-    let a = then_passed (demand (ltb p.chain t) Numbers.malformed t) _ e in
-    let b = then_passed (demand (one_or_two count) Numbers.rotary_count 0) _ a.1 in
-    let c = then_passed (demand (leb (p.chain + length_of_chain w count) t) Numbers.malformed t) _ b.1 in
-    let d = then_passed (demand (leb (p.poses + 48 * p.count) t) Numbers.malformed (t + 4)) _ c.1 in
-    let f = then_passed (demand (apart p (p.chain + length_of_chain w count) (p.poses + 48 * p.count)) Numbers.malformed (t + 4)) _ d.1 in
+    let a = then_passed (demand (ltb p.chain t) Cause.Malformed t) _ e in
+    let b = then_passed (demand (one_or_two count) Cause.RotaryCount 0) _ a.1 in
+    let c = then_passed (demand (leb (p.chain + length_of_chain w count) t) Cause.Malformed t) _ b.1 in
+    let d = then_passed (demand (leb (p.poses + 48 * p.count) t) Cause.Malformed (t + 4)) _ c.1 in
+    let f = then_passed (demand (apart p (p.chain + length_of_chain w count) (p.poses + 48 * p.count)) Cause.Malformed (t + 4)) _ d.1 in
     record {
       inside = ltb-true _ _ (demand_passed _ _ _ a.0);
       counted = demand_passed _ _ _ b.0;
-      chain_within_lem = leb-true _ _ (demand_passed _ _ _ c.0);
+      chain_fits = leb-true _ _ (demand_passed _ _ _ c.0);
       poses_within = leb-true _ _ (demand_passed _ _ _ d.0);
       apart_from = demand_passed _ _ _ f.0;
       known_word = ltb-true _ _ (demand_passed _ _ _ f.1);
     }
 
 -- what the chain's reader needs
-pub chain_room : (w : ℕ) (bytes : List ℕ) (p : Places) (count : ℕ) → 72 ≤ w → placed w bytes p count ≡ Checked.Passed → (1 ≤ count) × (72 ≤ w) × (p.chain + (32 + w * count) ≤ length bytes)
+pub chain_room : (w : ℕ) (bytes : List ℕ) (p : Places) (count : ℕ) → 72 ≤ w → placed w bytes p count ≡ Ok tt → (1 ≤ count) × (72 ≤ w) × (p.chain + (32 + w * count) ≤ length bytes)
 chain_room w bytes p count wide e =
     let q = placed_passed w bytes p count e in
-    let h = q.chain_within_lem in
+    let h = q.chain_fits in
     (at_least_one count q.counted, wide, omega (arith, h))
 
 -- ---- a job that was read
-given : (c : Checked) (j k : Job) → job_unless c k ≡ JobRead.Job j → (c ≡ Checked.Passed) × (j ≡ k)
-given Checked.Passed j k e = (refl, cc)
-given (Checked.Refused r) j k e = (cc, cc)
+given : (c : Checked) (j k : Job) → job_unless c k ≡ Ok j → (c ≡ Ok tt) × (j ≡ k)
+given (Ok _) j k e = (refl, cc)
+given (Err r) j k e = (cc, cc)
 
 apart_parts : (p : Places) (chain poses : ℕ) → apart p chain poses ≡ true → (p.count ≡ 0) ⊎ ((poses ≤ p.chain) ⊎ (chain ≤ p.poses))
 unfolding apart
@@ -95,8 +95,8 @@ pub record Within (bytes : List ℕ) (j : Job) : Type 0 where
   pub least : 40 ≤ length bytes
   pub most : length bytes ≤ 65536
   pub chain_least : 104 ≤ j.chain_length
-  pub chain_in_lem : j.chain_at + j.chain_length ≤ length bytes - 40
-  pub poses_in_lem : j.poses_at + 48 * j.poses ≤ length bytes - 40
+  pub chain_inside : j.chain_at + j.chain_length ≤ length bytes - 40
+  pub poses_inside : j.poses_at + 48 * j.poses ≤ length bytes - 40
   pub apart_from : (j.poses ≡ 0) ⊎ ((j.poses_at + 48 * j.poses ≤ j.chain_at) ⊎ (j.chain_at + j.chain_length ≤ j.poses_at))
 
 wide_enough : (w count : ℕ) → 72 ≤ w → 1 ≤ count → 104 ≤ 32 + w * count
@@ -105,37 +105,37 @@ wide_enough w (suc n) h l =
     let e : w * suc n ≡ w * n + w = omega arith in
     omega (arith, h, e)
 
-module _ (bytes : List ℕ) (j : Job) (read : read_job bytes ≡ JobRead.Job j) where
+module _ (bytes : List ℕ) (j : Job) (read : read_job bytes ≡ Ok j) where
   -- how long a rotary's record is, and how many there are
   abbrev pub w : ℕ
   w = word_length (places_in bytes).word
 
-  abbrev pub rotary_count_lem : ℕ
-  rotary_count_lem = byte_at bytes (places_in bytes).chain
+  abbrev pub count_read : ℕ
+  count_read = byte_at bytes (places_in bytes).chain
 
-  pub fields_passed : job_fields w bytes (places_in bytes) rotary_count_lem ≡ Checked.Passed
+  pub fields_passed : job_fields w bytes (places_in bytes) count_read ≡ Ok tt
   unfolding read_job job_from
-  fields_passed = (given (job_fields w bytes (places_in bytes) rotary_count_lem) j _ read).0
+  fields_passed = (given (job_fields w bytes (places_in bytes) count_read) j _ read).0
 
-  pub job_is : j ≡ job_at w bytes (places_in bytes) (chain_in w bytes (places_in bytes) rotary_count_lem)
+  pub job_is : j ≡ job_at w bytes (places_in bytes) (chain_in w bytes (places_in bytes) count_read)
   unfolding read_job job_from
-  job_is = (given (job_fields w bytes (places_in bytes) rotary_count_lem) j _ read).1
+  job_is = (given (job_fields w bytes (places_in bytes) count_read) j _ read).1
 
-  length_good_lem : sized (length bytes) ≡ true
+  length_sized : sized (length bytes) ≡ true
   unfolding job_fields
-  length_good_lem = demand_passed _ _ _ (then_passed (demand (sized (length bytes)) Numbers.malformed 0) _ fields_passed).0
+  length_sized = demand_passed _ _ _ (then_passed (demand (sized (length bytes)) Cause.Malformed 0) _ fields_passed).0
 
-  pub parts : Placed w bytes (places_in bytes) rotary_count_lem
+  pub parts : Placed w bytes (places_in bytes) count_read
   unfolding job_fields
   parts =
-      let a = then_passed (demand (sized (length bytes)) Numbers.malformed 0) _ fields_passed in
-      placed_passed w bytes (places_in bytes) rotary_count_lem (then_passed (placed w bytes (places_in bytes) rotary_count_lem) _ a.1).0
+      let a = then_passed (demand (sized (length bytes)) Cause.Malformed 0) _ fields_passed in
+      placed_passed w bytes (places_in bytes) count_read (then_passed (placed w bytes (places_in bytes) count_read) _ a.1).0
 
-  pub chain_at_lem : j.chain_at ≡ (places_in bytes).chain
+  pub chain_start : j.chain_at ≡ (places_in bytes).chain
   unfolding job_at
-  chain_at_lem = rw job_is
+  chain_start = rw job_is
 
-  pub chain_long : j.chain_length ≡ length_of_chain w rotary_count_lem
+  pub chain_long : j.chain_length ≡ length_of_chain w count_read
   unfolding job_at chain_in
   chain_long = rw job_is
 
@@ -147,16 +147,16 @@ module _ (bytes : List ℕ) (j : Job) (read : read_job bytes ≡ JobRead.Job j) 
   unfolding job_at
   pose_count = rw job_is
 
-  pub rotaries : j.chain.count ≡ rotary_count_lem
+  pub rotaries : j.chain.count ≡ count_read
   unfolding job_at chain_in
   rotaries = rw job_is
 
   pub within : Within bytes j
   within = record {
-    least = sized_least (length bytes) length_good_lem;
-    most = sized_most (length bytes) length_good_lem;
-    chain_least = rw chain_long (wide_enough w rotary_count_lem (word_wide (places_in bytes).word) (at_least_one rotary_count_lem parts.counted));
-    chain_in_lem = rw (chain_at_lem, chain_long) parts.chain_within_lem;
-    poses_in_lem = rw (poses_at, pose_count) parts.poses_within;
-    apart_from = rw (chain_at_lem, chain_long, poses_at, pose_count) (apart_parts _ _ _ parts.apart_from);
+    least = sized_least (length bytes) length_sized;
+    most = sized_most (length bytes) length_sized;
+    chain_least = rw chain_long (wide_enough w count_read (word_wide (places_in bytes).word) (at_least_one count_read parts.counted));
+    chain_inside = rw (chain_start, chain_long) parts.chain_fits;
+    poses_inside = rw (poses_at, pose_count) parts.poses_within;
+    apart_from = rw (chain_start, chain_long, poses_at, pose_count) (apart_parts _ _ _ parts.apart_from);
   }

@@ -1,5 +1,5 @@
 -- Laws of the lines of a path's text: their lengths, what is put one behind the other, and the loops over them.
-use Rattle.std.proofs.Common.{◌≡◌, ℕ, zero, suc, ◌+◌, ◌-◌, ◌*◌, ◌/◌, ◌<◌, ◌≤◌, true, false, List, [], ◌∷◌, ◌++◌, length, drop, set, sym, refl, ap, ◌∙◌, add-zero, add-suc, add-one, arith, length-append, drop-drop, le-leb}
+use Rattle.std.proofs.Common.{◌≡◌, ℕ, zero, suc, ◌+◌, ◌-◌, ◌*◌, ◌/◌, ◌<◌, ◌≤◌, true, false, List, [], ◌∷◌, ◌++◌, length, drop, refl, ap, add-zero, add-suc, add-one, arith, length-append, drop-drop, le-leb}
 use native.Mathlib.Nat.{sub-zero}
 use borrow.Author.Tests.{lt-leb}
 use lib.Ieee.{Float}
@@ -7,47 +7,12 @@ use Rattle.lists.specs.Rows.{rows}
 use Rattle.chain.specs.declared.Joints.{Joints}
 use Rattle.turn.specs.Items.{joints_from, joints_in}
 use Rattle.job.specs.Cable.{joint_sets}
-use Rattle.job.specs.Spelling.{written, width, decimal, number}
-use Rattle.job.specs.Telling.{newline, numbers, line, lines, lines_length, lines_fit}
-use Rattle.job.proofs.Written.{length_written, written_append, length_decimal, length_number}
+use Rattle.job.specs.declared.spelling.Page.{Page}
+use Rattle.job.specs.Spelling.{Fits, Put, width}
+use Rattle.job.specs.Telling.{numbers, line, lines, lines_length, lines_fit}
+use Rattle.job.proofs.Written.{fits_first, fits_next, put_none, put_then, length_decimal, length_number}
 
 -- ---- a line
-then_number : (l : List ℕ) (at : ℕ) (x : Float) (t : List ℕ) → written l at (number x ++ t) ≡ written (written l at (number x)) (at + 17) t
-then_number l at x t = rw (written_append l at (number x) t, length_number x)
-
-pub put_numbers : (j : Joints) (at : ℕ) (l l1 l2 l3 l4 l5 : List ℕ) → l1 ≡ written l at (number j.xyz.x) → l2 ≡ written l1 (at + 17) (number j.xyz.y) → l3 ≡ written l2 (at + 34) (number j.xyz.z)
-    → l4 ≡ written l3 (at + 51) (number j.a0) → l5 ≡ written l4 (at + 68) (number j.a1) → set l5 (at + 85) 10 ≡ written l at (numbers j)
-unfolding numbers
-put_numbers j at l l1 l2 l3 l4 l5 p1 p2 p3 p4 p5 =
-    sym
-    (then_number l at j.xyz.x (number j.xyz.y ++ (number j.xyz.z ++ (number j.a0 ++ (number j.a1 ++ newline))))
-    ∙ rw (← p1) (then_number l1 (at + 17) j.xyz.y (number j.xyz.z ++ (number j.a0 ++ (number j.a1 ++ newline))))
-    ∙ second)
-  where
-    q2 : at + 17 + 17 ≡ at + 34
-    q2 = omega arith
-
-    q3 : at + 34 + 17 ≡ at + 51
-    q3 = omega arith
-
-    q4 : at + 51 + 17 ≡ at + 68
-    q4 = omega arith
-
-    q5 : at + 68 + 17 ≡ at + 85
-    q5 = omega arith
-
-    fifth : written l4 (at + 68) (number j.a1 ++ newline) ≡ set l5 (at + 85) 10
-    fifth = then_number l4 (at + 68) j.a1 newline ∙ rw (← p5, q5) (unfold written in refl)
-
-    fourth : written l3 (at + 51) (number j.a0 ++ (number j.a1 ++ newline)) ≡ set l5 (at + 85) 10
-    fourth = then_number l3 (at + 51) j.a0 (number j.a1 ++ newline) ∙ rw (← p4, q4) fifth
-
-    third : written l2 (at + 34) (number j.xyz.z ++ (number j.a0 ++ (number j.a1 ++ newline))) ≡ set l5 (at + 85) 10
-    third = then_number l2 (at + 34) j.xyz.z (number j.a0 ++ (number j.a1 ++ newline)) ∙ rw (← p3, q3) fourth
-
-    second : written (written l1 (at + 17) (number j.xyz.y)) (at + 17 + 17) (number j.xyz.z ++ (number j.a0 ++ (number j.a1 ++ newline))) ≡ set l5 (at + 85) 10
-    second = rw (← p2, q2) third
-
 pub length_numbers : (j : Joints) → length (numbers j) ≡ 86
 unfolding numbers
 length_numbers j = simp (length-append, length_number)
@@ -55,13 +20,6 @@ length_numbers j = simp (length-append, length_number)
 pub length_line : (i : ℕ) (j : Joints) → length (line i j) ≡ width i + 86
 unfolding line
 length_line i j = rw (length-append, length_decimal, length_numbers)
-
-pub put_line : (i : ℕ) (j : Joints) (at r : ℕ) (l l1 l2 : List ℕ) → (r ≡ at + width i) × (l1 ≡ written l at (decimal i)) → l2 ≡ written l1 r (numbers j)
-    → (r + 86 ≡ at + (width i + 86)) × (l2 ≡ written l at (line i j))
-unfolding line
-put_line i j at r l l1 l2 e f =
-    let g = e.0 in
-    (omega (arith, g), f ∙ rw (g, e.1) (sym (rw (written_append l at (decimal i) (numbers j), length_decimal i))))
 
 -- ---- the lengths of the lines
 pub lines_more : (n : ℕ) → lines_length (n + 1) ≡ lines_length n + (width n + 86)
@@ -106,56 +64,32 @@ next_set l n i p =
     let f : i * 5 + 5 ≡ (i + 1) * 5 = omega arith in
     rw (e, drop-drop, f)
 
-pub record Lining (l : List Float) (o : List ℕ) (at n : ℕ) (out : List ℕ) (end i : ℕ) : Type 0 where
-  pub within : i ≤ n
-  pub count : n ≡ length l / 5
-  pub room : at + lines_length n ≤ length o
-  pub as_long : length out ≡ length o
-  pub here : end ≡ at + lines_length i
-  pub whole : written out end (lines i (rows 5 joints_from (n - i) (drop (i * 5) l))) ≡ written o at (lines 0 (joint_sets l))
+-- what is left has room, and the whole is put once it is
+pub record Lining (l : List Float) (first : Page) (n : ℕ) (p : Page) (i : ℕ) : Type 0 where
+  pub fits : Fits p (lines i (rows 5 joints_from (n - i) (drop (i * 5) l)))
+  pub whole : {last : Page} → Put p (lines i (rows 5 joints_from (n - i) (drop (i * 5) l))) last → Put first (lines 0 (joint_sets l)) last
 
-module _ {l : List Float} {o : List ℕ} {at : ℕ} where
-  pub lining_start : at + lines_length (length l / 5) ≤ length o → Lining l o at (length l / 5) o at 0
-  unfolding joint_sets lines_length
-  lining_start h = record { within = omega arith; count = refl; room = h; as_long = refl; here = omega arith; whole = rw sub-zero }
+module _ {l : List Float} {first : Page} where
+  pub lining_start : Fits first (lines 0 (joint_sets l)) → Lining l first (length l / 5) first 0
+  unfolding joint_sets
+  lining_start h = record { fits = rw sub-zero h; whole = λ p. rw sub-zero at p }
 
-  -- the next line has room
-  pub lining_room : {n end i : ℕ} {out : List ℕ} → i < n → Lining l o at n out end i → end + (width i + 86) ≤ length out
-  lining_room {n} {end} {i} {out} h f =
-      let a = f.room in
-      let b = f.as_long in
-      let c = f.here in
-      let d = lines_more i in
-      let e = lines_mono (i + 1) n (omega (arith, h)) in
-      omega (arith, a, b, c, d, e)
+  module _ {n i : ℕ} {p : Page} (h : i < n) (f : Lining l first n p i) where
+    this_line : lines i (rows 5 joints_from (n - i) (drop (i * 5) l)) ≡ line i (joints_in l (i * 5)) ++ lines (i + 1) (rows 5 joints_from (n - (i + 1)) (drop ((i + 1) * 5) l))
+    unfolding lines
+    this_line = rw (next_set l n i h, add-one) refl
 
-  pub lining_step : {n end end' i : ℕ} {out out' : List ℕ} {j : Joints} → i < n → Lining l o at n out end i → j ≡ joints_in l (i * 5)
-      → (end' ≡ end + (width i + 86)) × (out' ≡ written out end (line i j)) → Lining l o at n out' end' (i + 1)
-  unfolding lines
-  lining_step {n} {end} {end'} {i} {out} {out'} {j} h f e g =
-      let c = f.here in
-      let m = lines_more i in
-      let p = g.0 in
-      let rest = rows 5 joints_from (n - (i + 1)) (drop ((i + 1) * 5) l) in
-      let q : end + length (line i j) ≡ end' = rw length_line (omega (arith, p)) in
-      let w : written out end (line i j ++ lines (suc i) rest) ≡ written o at (lines 0 (joint_sets l)) = ap (λ (x : Joints). written out end (line i x ++ lines (suc i) rest)) e ∙ ap (λ (t : List Joints). written out end (lines i t)) (sym (next_set l n i h)) ∙ f.whole in
-      record {
-        within = omega (arith, h);
-        count = f.count;
-        room = f.room;
-        as_long = ap length g.1 ∙ length_written out end (line i j) ∙ f.as_long;
-        here = omega (arith, p, c, m);
-        whole = ap (λ (k : ℕ). written out' end' (lines k rest)) (add-one i) ∙ rw (g.1, ← q) (sym (written_append out end (line i j) (lines (suc i) rest)) ∙ w);
-      }
+    pub lining_room : Fits p (line i (joints_in l (i * 5)))
+    lining_room = fits_first _ (rw this_line at f.fits)
 
-  pub lining_end : {n end i : ℕ} {out : List ℕ} → n ≤ i → Lining l o at n out end i
-      → (end ≡ at + lines_length (length l / 5)) × (out ≡ written o at (lines 0 (joint_sets l)))
-  unfolding lines written rows
-  lining_end {n} {end} {i} {out} h f =
-      let w = f.within in
-      let z : i ≡ n = omega (arith, w, h) in
+    pub lining_step : {q : Page} → Put p (line i (joints_in l (i * 5))) q → Lining l first n q (i + 1)
+    lining_step g = record { fits = fits_next g (rw this_line at f.fits); whole = λ r. f.whole (rw this_line (put_then g r)) }
+
+  pub lining_end : {n i : ℕ} {p : Page} → n ≤ i → Lining l first n p i → Put first (lines 0 (joint_sets l)) p
+  unfolding lines rows
+  lining_end {n} {i} {p} h f =
       let s : n - i ≡ 0 = omega (arith, h) in
-      (f.here ∙ rw (z, f.count), rw s at f.whole)
+      f.whole (rw s (put_none p))
 
 -- ---- the loop that looks for room
 pub record Fitting (n used room left i : ℕ) : Type 0 where

@@ -51,11 +51,11 @@ by_parts u d p q =
     let e : min (u / d) 18446744073709551615 ≡ u / d = omega (arith, f) in
     rw e (div-div-eq-div-mul u d 360)
 
-pub whole_turns_lem : (a : Float) → within a most_wound ≡ true → to_unsigned 64 (size_of a) / 360 ≡ turns_of a
+pub turns_counted : (a : Float) → within a most_wound ≡ true → to_unsigned 64 (size_of a) / 360 ≡ turns_of a
 unfolding within size_of turns_of to_unsigned
-whole_turns_lem nan h = absurd (false≢true (sym no_nan ∙ h))
-whole_turns_lem (inf s) h = absurd (false≢true (sym no_inf ∙ h))
-whole_turns_lem (fin s m e) h = by_parts (m * up e) (down e) (down_pos e) (at_most m e h)
+turns_counted nan h = absurd (false≢true (sym no_nan ∙ h))
+turns_counted (inf s) h = absurd (false≢true (sym no_inf ∙ h))
+turns_counted (fin s m e) h = by_parts (m * up e) (down e) (down_pos e) (at_most m e h)
 
 -- ---- the largest number of turns
 -- for each number of turns: it fits exactly if it is at most `turns_of`

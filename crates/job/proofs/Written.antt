@@ -1,15 +1,22 @@
 -- Laws of texts: one behind another, a digit before the rest, and the widths of numbers.
-use Rattle.std.proofs.Common.{◌≡◌, ℕ, zero, suc, ◌+◌, ◌-◌, ◌*◌, ◌/◌, ◌%◌, ◌^◌, ◌<◌, ◌≤◌, Bool, true, false, cond, ltb, List, [], ◌∷◌, ◌++◌, length, get_or, drop, set, sym, refl, ap, ◌∙◌, add-zero, mod-lt, div-lt_iff_lt-mul, add-one, arith, length-append, length-set, drop_of_length-le, drop-cons, ltb-false, ltb-true, le-ltb, lt-ltb}
+use Rattle.std.proofs.Common.{◌≡◌, ℕ, zero, suc, ◌+◌, ◌-◌, ◌*◌, ◌/◌, ◌%◌, ◌^◌, ◌<◌, ◌≤◌, Bool, true, false, not, ◌&&◌, cond, ltb, List, [], ◌∷◌, ◌++◌, length, take, drop, set, sym, refl, ap, ◌∙◌, add-zero, div-lt_iff_lt-mul, add-one, arith, eq-eqb, append_assoc, length-append, length-set, take-append-drop, drop-set-lt, ltb-false, ltb-true, le-ltb, lt-ltb}
 use native.Mathlib.Nat.{pow-succ'}
 use lib.Seq.{set_comm}
-use lib.Ieee.{Float}
-use Rattle.job.specs.Spelling.{written, digit, digits, width_within, width, decimal, labelled, paired, bits_of, number}
+use Rattle.std.specs.Fmt as Fmt
+use Rattle.std.proofs.lemmas.Fmt.{decimal_by_steps}
+use Rattle.lists.proofs.Fold.{pushed}
+use lib.Ieee.{Float, nan, inf, fin, binary64, to_bits, is_nan, ne, eq, up, down}
+use Rattle.job.specs.declared.spelling.Page.{Page}
+use Rattle.job.specs.Spelling.{Fits, Put, written, digit, digits, width_within, width, decimal, labelled, paired, bits_of, number}
 
 -- ---- texts
 pub length_written : (l : List ℕ) (at : ℕ) (t : List ℕ) → length (written l at t) ≡ length l
 unfolding written
 length_written l at [] = refl
 length_written l at (b ∷ t) = length_written (set l at b) (at + 1) t ∙ length-set l at b
+
+pub length_put : (l' l : List ℕ) (at : ℕ) (t : List ℕ) → l' ≡ written l at t → length l' ≡ length l
+length_put l' l at t e = ap length e ∙ length_written l at t
 
 pub written_append : (l : List ℕ) (at : ℕ) (t u : List ℕ) → written l at (t ++ u) ≡ written (written l at t) (at + length t) u
 unfolding written
@@ -30,34 +37,48 @@ pub written_last : (l : List ℕ) (at : ℕ) (t : List ℕ) (b : ℕ) → writte
 unfolding written
 written_last l at t b = written_append l at t (b ∷ []) ∙ set_behind l at (at + length t) b t (omega arith)
 
--- ---- the loop that copies a text
-pub record Putting (text o : List ℕ) (at : ℕ) (l : List ℕ) (i : ℕ) : Type 0 where
-  pub within : i ≤ length text
-  pub room : at + length text ≤ length o
-  pub as_long : length l ≡ length o
-  pub whole : written l (at + i) (drop i text) ≡ written o at text
+-- ---- a text behind another
+pub fits_first : {p : Page} {t : List ℕ} (u : List ℕ) → Fits p (t ++ u) → Fits p t
+fits_first {p} {t} u h =
+    let r = h.room in
+    let k = length-append t u in
+    record { room = omega (arith, r, k) }
 
-module _ {text o : List ℕ} {at : ℕ} where
-  pub putting_start : at + length text ≤ length o → Putting text o at o 0
-  putting_start h = record { within = omega arith; room = h; as_long = refl; whole = rw add-zero }
+pub fits_next : {p q : Page} {t u : List ℕ} → Put p t q → Fits p (t ++ u) → Fits q u
+fits_next {p} {q} {t} {u} f h =
+    let r = h.room in
+    let k = length-append t u in
+    let m = length_put q.out.now p.out.now p.at t f.whole in
+    let e = f.behind in
+    record { room = omega (arith, r, k, m, e) }
 
-  pub putting_step : {l : List ℕ} {i : ℕ} → i < length text → Putting text o at l i → Putting text o at (set l (at + i) (get_or text i 0)) (i + 1)
-  unfolding written
-  putting_step {l} {i} h f =
-      let e : at + i + 1 ≡ at + (i + 1) = omega arith in
-      let x = get_or text i 0 in
-      let d : drop i text ≡ x ∷ drop (i + 1) text = rw add-one (drop-cons text i 0 h) in
-      let g : written l (at + i) (x ∷ drop (i + 1) text) ≡ written o at text = ap (written l (at + i)) (sym d) ∙ f.whole in
-      record {
-        within = omega (arith, h);
-        room = f.room;
-        as_long = length-set l (at + i) (get_or text i 0) ∙ f.as_long;
-        whole = ap (λ (k : ℕ). written (set l (at + i) x) k (drop (i + 1) text)) (sym e) ∙ g;
-      }
+pub put_none : (p : Page) → Put p [] p
+unfolding written
+put_none p = record { same = refl; whole = refl; behind = omega arith }
 
-  pub putting_end : {l : List ℕ} {i : ℕ} → length text ≤ i → Putting text o at l i → l ≡ written o at text
-  unfolding written
-  putting_end {l} {i} h f = ap (written l (at + i)) (sym (drop_of_length-le text h)) ∙ f.whole
+pub put_then : {p q r : Page} {t u : List ℕ} → Put p t q → Put q u r → Put p (t ++ u) r
+put_then {p} {q} {r} {t} {u} f g =
+    let k = length-append t u in
+    let e = f.behind in
+    let d = g.behind in
+    record {
+      same = g.same ∙ f.same;
+      whole = g.whole ∙ rw (e, f.whole) (sym (written_append p.out.now p.at t u));
+      behind = omega (arith, k, e, d);
+    }
+
+-- ---- a text in the middle of what was there
+pub written_between : (l : List ℕ) (at : ℕ) (t : List ℕ) → at + length t ≤ length l → take at l ++ (t ++ drop (at + length t) l) ≡ written l at t
+unfolding written
+written_between l at [] h = rw add-zero (take-append-drop at l)
+written_between l at (b ∷ t) h =
+    let m : length (set l at b) ≡ length l = length-set l at b in
+    let k : at + suc (length t) ≤ length l = h in
+    let n : at + 1 + length t ≡ at + suc (length t) = omega arith in
+    let f : take (at + 1) (set l at b) ≡ take at l ++ (b ∷ []) = pushed l at b (omega (arith, k)) in
+    let r : drop (at + suc (length t)) (set l at b) ≡ drop (at + suc (length t)) l = drop-set-lt (at + suc (length t)) l at b (omega arith) in
+    let rest = written_between (set l at b) (at + 1) t (omega (arith, k, m, n)) in
+    rw (f, n, r, append_assoc (take at l) (b ∷ []) (t ++ drop (at + suc (length t)) l)) at rest
 
 -- ---- digits
 pub length_digits : (base n x : ℕ) → length (digits base n x) ≡ n
@@ -69,42 +90,34 @@ last_digit : (base : ℕ) (l : List ℕ) (at i rest : ℕ) → written l at (dig
 unfolding digits
 last_digit base l at i rest = rw (written_last l at (digits base i (rest / base)) (digit (rest % base)), length_digits base i (rest / base))
 
-pub record Digits (base n x : ℕ) (o : List ℕ) (at : ℕ) (l : List ℕ) (rest i : ℕ) : Type 0 where
-  pub few : i ≤ n
-  pub base_least : 2 ≤ base
-  pub base_most : base ≤ 16
-  pub room : at + n ≤ length o
+-- the loop that puts 16 of them, the last one first
+pub record Digits (x : ℕ) (o : List ℕ) (at : ℕ) (l : List ℕ) (rest i : ℕ) : Type 0 where
+  pub few : i ≤ 16
+  pub room : at + 16 ≤ length o
   pub as_long : length l ≡ length o
-  pub whole : written l at (digits base i rest) ≡ written o at (digits base n x)
+  pub whole : written l at (digits 16 i rest) ≡ written o at (digits 16 16 x)
 
-module _ {base n x : ℕ} {o : List ℕ} {at : ℕ} where
-  pub digits_start : 2 ≤ base → base ≤ 16 → at + n ≤ length o → Digits base n x o at o x n
-  digits_start p q r = record { few = omega arith; base_least = p; base_most = q; room = r; as_long = refl; whole = refl }
+module _ {x : ℕ} {o : List ℕ} {at : ℕ} where
+  pub digits_start : at + 16 ≤ length o → Digits x o at o x 16
+  digits_start r = record { few = omega arith; room = r; as_long = refl; whole = refl }
 
-  pub digits_step : {l : List ℕ} {rest i d : ℕ} → 0 < i → Digits base n x o at l rest i → d ≡ digit (rest % base) → Digits base n x o at (set l (at + (i - 1)) d) (rest / base) (i - 1)
+  pub digits_step : {l : List ℕ} {rest i d : ℕ} → 0 < i → Digits x o at l rest i → d ≡ digit (rest % 16) → Digits x o at (set l (at + (i - 1)) d) (rest / 16) (i - 1)
   digits_step {l} {rest} {i} {d} h f e =
       let s : i ≡ suc (i - 1) = omega (arith, h) in
       let k = f.few in
-      let g : written l at (digits base (suc (i - 1)) rest) ≡ written o at (digits base n x) = rw (← s) f.whole in
+      let g : written l at (digits 16 (suc (i - 1)) rest) ≡ written o at (digits 16 16 x) = rw (← s) f.whole in
       record {
         few = omega (arith, k);
-        base_least = f.base_least;
-        base_most = f.base_most;
         room = f.room;
         as_long = length-set l (at + (i - 1)) d ∙ f.as_long;
-        whole = rw e (sym (last_digit base l at (i - 1) rest) ∙ g);
+        whole = rw e (sym (last_digit 16 l at (i - 1) rest) ∙ g);
       }
 
-  pub digits_end : {l : List ℕ} {rest i : ℕ} → i ≤ 0 → Digits base n x o at l rest i → l ≡ written o at (digits base n x)
+  pub digits_end : {l : List ℕ} {rest i : ℕ} → i ≤ 0 → Digits x o at l rest i → l ≡ written o at (digits 16 16 x)
   unfolding digits written
   digits_end {l} {rest} {i} h f =
       let z : i ≡ 0 = omega (arith, h) in
       rw z at f.whole
-
-pub digit_few : (x base : ℕ) → 2 ≤ base → base ≤ 16 → x % base < 16
-digit_few x base p q =
-    let h = mod-lt x {m = base} (omega (arith, p)) in
-    omega (arith, h, q)
 
 -- ---- widths
 enough : (n m x : ℕ) → x ≤ n → x ≤ m → width_within n x ≡ width_within m x
@@ -166,37 +179,41 @@ pub length_decimal : (x : ℕ) → length (decimal x) ≡ width x
 unfolding decimal
 length_decimal x = length_digits 10 (width x) x
 
--- the loop that counts them
-pub record Counting (x rest n : ℕ) : Type 0 where
-  pub some : 1 ≤ n
-  pub few : n + rest ≤ x + 1
-  pub whole : width x + 1 ≡ n + width rest
+power_some : (k : ℕ) → 1 ≤ 10 ^ k
+power_some zero = omega arith
+power_some (suc k) =
+    let p : 10 ^ suc k ≡ 10 * 10 ^ k = pow-succ' 10 k in
+    let h = power_some k in
+    omega (arith, p, h)
 
-pub counting_start : (x : ℕ) → Counting x x 1
-counting_start x = record { some = omega arith; few = omega arith; whole = omega arith }
+pub width_is : (k x : ℕ) → 10 ^ k ≤ x → x < 10 * 10 ^ k → width x ≡ suc k
+width_is zero x h l = width_small x (omega (arith, l))
+width_is (suc k) x h l =
+    let p : 10 ^ suc k ≡ 10 * 10 ^ k = pow-succ' 10 k in
+    let some = power_some k in
+    width_more x (omega (arith, h, p, some)) ∙ ap suc (width_is k (x / 10) (omega (arith, h, p)) (omega (arith, l, p)))
 
-pub counting_step : {x rest n : ℕ} → 9 < rest → Counting x rest n → Counting x (rest / 10) (n + 1)
-counting_step {x} {rest} {n} h f =
-    let a = f.some in
-    let b = f.few in
-    let c = f.whole in
-    let e = width_more rest h in
-    record { some = omega arith; few = omega (arith, b, h); whole = omega (arith, c, e) }
+low_digit : (d : ℕ) → d < 10 → digit d ≡ 48 + d
+unfolding digit
+low_digit d h = rw (lt-ltb d 10 h)
 
-pub counting_end : {x rest n : ℕ} → rest ≤ 9 → Counting x rest n → n ≡ width x
-counting_end {x} {rest} {n} h f =
-    let c = f.whole in
-    let e = width_small rest (omega (arith, h)) in
-    omega (arith, c, e)
+-- std's decimals are the same
+pub decimal_is : (x : ℕ) → x < 2 ^ 64 → decimal x ≡ Fmt.decimal x
+unfolding decimal digits
+decimal_is = decimal_by_steps (λ n ds. decimal n ≡ ds) one more
+  where
+    one : (n : ℕ) → n < 10 → decimal n ≡ (48 + n) ∷ []
+    one n h =
+        let small : n % 10 ≡ n = omega (arith, h) in
+        rw (width_small n h, small, low_digit n h)
+
+    more : (n : ℕ) (ds : List ℕ) → 10 ≤ n → decimal (n / 10) ≡ ds → decimal n ≡ ds ++ ((48 + n % 10) ∷ [])
+    more n ds h e = rw (width_more n h, low_digit (n % 10) (omega arith), e)
 
 -- ---- words and numbers
 pub length_labelled : (label : List ℕ) (x : ℕ) → length (labelled label x) ≡ length label + width x
 unfolding labelled
 length_labelled label x = rw (length-append, length_decimal)
-
-pub written_labelled : (l : List ℕ) (at : ℕ) (label : List ℕ) (x : ℕ) → written l at (labelled label x) ≡ written (written l at label) (at + length label) (decimal x)
-unfolding labelled
-written_labelled l at label x = written_append l at label (decimal x)
 
 pub length_number : (x : Float) → length (number x) ≡ 17
 unfolding number
@@ -206,35 +223,26 @@ pub written_number : (l : List ℕ) (at : ℕ) (x : Float) → written (set l at
 unfolding number written
 written_number l at x = refl
 
-pub put_labelled : (l l1 l2 : List ℕ) (at : ℕ) (label : List ℕ) (x r : ℕ) → l1 ≡ written l at label
-    → (r ≡ at + length label + width x) × (l2 ≡ written l1 (at + length label) (decimal x)) → (r ≡ at + (length label + width x)) × (l2 ≡ written l at (labelled label x))
-put_labelled l l1 l2 at label x r e f =
-    let g = f.0 in
-    (omega (arith, g), f.1 ∙ ap (λ (m : List ℕ). written m (at + length label) (decimal x)) e ∙ sym (written_labelled l at label x))
-
-pub length_behind : (l' l : List ℕ) (at b k : ℕ) (t : List ℕ) → l' ≡ written (set l at b) k t → length l' ≡ length l
-length_behind l' l at b k t e = ap length e ∙ length_written (set l at b) k t ∙ length-set l at b
-
-pub length_put : (l' l : List ℕ) (at : ℕ) (t : List ℕ) → l' ≡ written l at t → length l' ≡ length l
-length_put l' l at t e = ap length e ∙ length_written l at t
-
 -- ---- two words with their numbers
 pub length_paired : (label : List ℕ) (x : ℕ) (word : List ℕ) (y : ℕ) → length (paired label x word y) ≡ length label + width x + (length word + width y)
 unfolding paired
 length_paired label x word y = rw (length-append, length_labelled, length_labelled)
 
-pub put_paired : (l l1 l2 : List ℕ) (at a r : ℕ) (label : List ℕ) (x : ℕ) (word : List ℕ) (y : ℕ) → (a ≡ at + (length label + width x)) × (l1 ≡ written l at (labelled label x))
-    → (r ≡ a + (length word + width y)) × (l2 ≡ written l1 a (labelled word y)) → (r ≡ at + (length label + width x + (length word + width y))) × (l2 ≡ written l at (paired label x word y))
-unfolding paired
-put_paired l l1 l2 at a r label x word y e f =
-    let p = e.0 in
-    let q = f.0 in
-    (omega (arith, p, q), f.1 ∙ rw (p, e.1) (sym (rw (written_append l at (labelled label x) (labelled word y), length_labelled label x))))
+-- ---- bits
+differs : (x : Float) → ne x x ≡ is_nan x
+unfolding ne eq is_nan
+differs nan = refl
+differs (inf true) = refl
+differs (inf false) = refl
+differs (fin true m e) = ap (λ (b : Bool). not (b && true)) (eq-eqb (m * up e * down e) _ refl)
+differs (fin false m e) = ap (λ (b : Bool). not (b && true)) (eq-eqb (m * up e * down e) _ refl)
 
--- ---- a text with its newline
-pub put_last : (l l1 : List ℕ) (at end : ℕ) (t : List ℕ) → end ≡ at + length t → l1 ≡ written l at t → set l1 end 10 ≡ written l at (t ++ (10 ∷ []))
-unfolding written
-put_last l l1 at end t e f = rw (e, f) (sym (written_append l at t (10 ∷ [])))
-
-pub length_ended : (l l1 : List ℕ) (at end : ℕ) (t : List ℕ) → l1 ≡ written l at t → length (set l1 end 10) ≡ length l
-length_ended l l1 at end t e = length-set l1 end 10 ∙ length_put l1 l at t e
+-- `to_bits` has the one pattern for the nan
+pub bits_are : (x : Float) → bits_of x ≡ to_bits binary64 x
+unfolding bits_of is_nan
+bits_are x = rw (differs x) (by_kind x)
+  where
+    by_kind : (x : Float) → cond (is_nan x) 0x7ff8_0000_0000_0000 (to_bits binary64 x) ≡ to_bits binary64 x
+    by_kind nan = unfold to_bits in refl
+    by_kind (inf s) = refl
+    by_kind (fin s m e) = refl

@@ -1,21 +1,21 @@
 -- The cable number, a term of documents 01 and 02: of a rotary on a path the largest whole k with 360 times k at most
 -- the size of the difference, taken once in floats, of some angle and the rotary's rest angle; 0 on an empty path and for
 -- a rotary that the chain lacks.
-use Rattle.std.specs.Prelude.{◌≡◌, ℕ, ◌*◌, ◌/◌, ◌%◌, ◌≤◌, Bool, cond, ◌&&◌, ◌⊎◌, List, [], ◌∷◌, length, ◌==◌, from_bits, nat_lt, Float}
+use Rattle.std.specs.Prelude.{◌≡◌, ℕ, ◌*◌, ◌/◌, ◌%◌, ◌≤◌, Bool, cond, ◌&&◌, ◌⊎◌, List, [], ◌∷◌, length, ◌==◌, from_bits, nat_lt, Float, Err, Ok, Result}
 use Rattle.std.specs.Float.Ieee as Ieee
 use Rattle.std.specs.Float.{nan, inf, fin, binary64}
 use Rattle.std.specs.Float.Ieee.{up, down}
 use Rattle.lists.specs.Fold.{fold}
 use Rattle.lists.specs.Rows.{rows}
 use Rattle.lists.specs.Search.{all}
-use Rattle.refusal.specs.Numbers as Numbers
-use Rattle.chain.specs.declared.Checked.{Checked}
+use Rattle.refusal.specs.declared.Refusal.{Refusal}
+use Rattle.refusal.specs.declared.Cause.{Cause}
+use Rattle.chain.specs.Checked.{Checked}
 use Rattle.chain.specs.declared.Joints.{Joints}
 use Rattle.chain.specs.declared.Kinematics.{Kinematics}
 use Rattle.chain.specs.Check.{demand, first_refusal, chain_check, chain_within, joints_finite, joints_within, within}
 use Rattle.turn.specs.Items.{joints_from}
 use Rattle.job.specs.declared.Survey.{Survey}
-use Rattle.job.specs.declared.Cable.{Cable}
 
 -- ---- the joint sets, five numbers each
 unfoldable pub joint_sets : List Float → List Joints
@@ -78,20 +78,20 @@ cable_sizes k within = chain_within k && within
 unfoldable pub cable_check : Kinematics → ℕ → Survey → Checked
 cable_check k numbers s =
     first_refusal
-    (demand (numbers % 5 == 0) Numbers.lengths_differ 0
+    (demand (numbers % 5 == 0) Cause.LengthsDiffer 0
     ∷ chain_check k
-    ∷ demand s.finite Numbers.not_finite 0
-    ∷ demand (cable_sizes k s.within) Numbers.too_large 0
+    ∷ demand s.finite Cause.NotFinite 0
+    ∷ demand (cable_sizes k s.within) Cause.TooLarge 0
     ∷ [])
 
-abbrev pub cable_unless : Checked → ℕ → Cable
-cable_unless Checked.Passed k = Cable.Turns k
-cable_unless (Checked.Refused r) k = Cable.Refused r
+abbrev pub cable_unless : Checked → ℕ → Result ℕ Refusal
+cable_unless (Ok _) k = Ok k
+cable_unless (Err r) k = Err r
 
-unfoldable pub cable_of : Kinematics → ℕ → Survey → ℕ → Cable
+unfoldable pub cable_of : Kinematics → ℕ → Survey → ℕ → Result ℕ Refusal
 cable_of k numbers s rotary = cable_unless (cable_check k numbers s) (cond (nat_lt rotary k.count) s.turns 0)
 
-unfoldable pub cable_number : Kinematics → List Float → ℕ → Cable
+unfoldable pub cable_number : Kinematics → List Float → ℕ → Result ℕ Refusal
 cable_number k joints rotary = cable_of k (length joints) (survey (rest_of k rotary) rotary (joint_sets joints)) rotary
 
 -- ---- that it is the largest

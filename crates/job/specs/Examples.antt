@@ -1,17 +1,19 @@
 -- Worked examples: document 01's text of an answer, and where the first bad field of a job is.
-use Rattle.std.specs.Prelude.{◌≡◌, ℕ, List, [], ◌∷◌, ◌++◌, replicate, refl, Float}
+use Rattle.std.specs.Prelude.{◌≡◌, ℕ, List, [], ◌∷◌, ◌++◌, replicate, refl, Float, Err, Ok, Result}
 use Rattle.std.specs.Float.Ieee as Ieee
 use Rattle.std.specs.Float.{binary64}
 use Rattle.std.specs.Float.Ieee.{of_bits, to_bits}
+use Rattle.refusal.specs.declared.Refusal.{Refusal}
 use Rattle.refusal.specs.Numbers as Numbers
+use Rattle.refusal.specs.declared.Cause.{Cause}
 use Rattle.geometry.specs.Vector.{vector}
 use Rattle.chain.specs.declared.Joints.{Joints}
 use Rattle.chain.specs.Bytes.{little_endian, spare}
 use Rattle.chain.specs.Check.{one_or_two, known_letter}
 use Rattle.chain.specs.ChainBytes.{zeros, flag, rotary_fields}
+use Rattle.job.specs.declared.Job.{Job}
 use Rattle.job.specs.declared.Figures.{Figures}
-use Rattle.job.specs.declared.Ended.TheVariants as Ended
-use Rattle.job.specs.declared.JobRead.{JobRead}
+use Rattle.job.specs.declared.JobError.{JobError}
 use Rattle.job.specs.JobBytes.{word_length, sized, places_in, chain_end, poses_end, apart, placed, rotary_part, second_part, chain_part, second_in, chain_in, job_at, job_fields, job_from, read_job}
 use Rattle.job.specs.Cable.{turns_of, most_wound}
 use Rattle.job.specs.Spelling.{digit, digits, width_within, width, decimal, labelled, paired, bits_of, number}
@@ -30,7 +32,7 @@ figures : Figures
 figures = record { inserted = 0; first = 0; second = 0 }
 
 -- positions (1, 2, 3) and (3, 2, 3), angles 0
-two_poses : text_of (Ended.Divided figures) (at (of_bits binary64 0x3ff0_0000_0000_0000) ∷ at (of_bits binary64 0x4008_0000_0000_0000) ∷ [])
+two_poses : text_of (Ok figures) (at (of_bits binary64 0x3ff0_0000_0000_0000) ∷ at (of_bits binary64 0x4008_0000_0000_0000) ∷ [])
     ≡ (112 ∷ 111 ∷ 115 ∷ 101 ∷ 115 ∷ 32 ∷ 50 ∷ 32 ∷ 105 ∷ 110 ∷ 115 ∷ 101 ∷ 114 ∷ 116 ∷ 101 ∷ 100 ∷ 32 ∷ 48 ∷ 32 ∷ 116 ∷ 117 ∷ 114 ∷ 110 ∷ 115 ∷ 32 ∷ 48 ∷ 32 ∷ 48 ∷ 10 ∷ [])
     ++ (48 ∷ 32 ∷ 51 ∷ 70 ∷ 70 ∷ 48 ∷ 48 ∷ 48 ∷ 48 ∷ 48 ∷ 48 ∷ 48 ∷ 48 ∷ 48 ∷ 48 ∷ 48 ∷ 48 ∷ 48 ∷ 32 ∷ 52 ∷ 48 ∷ 48 ∷ 48 ∷ 48 ∷ 48 ∷ 48 ∷ 48 ∷ 48 ∷ 48 ∷ 48 ∷ 48 ∷ 48 ∷ 48 ∷ 48 ∷ 48 ∷ 32 ∷ 52 ∷ 48 ∷ 48 ∷ 56 ∷ 48 ∷ 48 ∷ 48 ∷ 48 ∷ 48 ∷ 48 ∷ 48 ∷ 48 ∷ 48 ∷ 48 ∷ 48 ∷ 48 ∷ 32 ∷ 48 ∷ 48 ∷ 48 ∷ 48 ∷ 48 ∷ 48 ∷ 48 ∷ 48 ∷ 48 ∷ 48 ∷ 48 ∷ 48 ∷ 48 ∷ 48 ∷ 48 ∷ 48 ∷ 32 ∷ 48 ∷ 48 ∷ 48 ∷ 48 ∷ 48 ∷ 48 ∷ 48 ∷ 48 ∷ 48 ∷ 48 ∷ 48 ∷ 48 ∷ 48 ∷ 48 ∷ 48 ∷ 48 ∷ 10 ∷ [])
     ++ (49 ∷ 32 ∷ 52 ∷ 48 ∷ 48 ∷ 56 ∷ 48 ∷ 48 ∷ 48 ∷ 48 ∷ 48 ∷ 48 ∷ 48 ∷ 48 ∷ 48 ∷ 48 ∷ 48 ∷ 48 ∷ 32 ∷ 52 ∷ 48 ∷ 48 ∷ 48 ∷ 48 ∷ 48 ∷ 48 ∷ 48 ∷ 48 ∷ 48 ∷ 48 ∷ 48 ∷ 48 ∷ 48 ∷ 48 ∷ 48 ∷ 32 ∷ 52 ∷ 48 ∷ 48 ∷ 56 ∷ 48 ∷ 48 ∷ 48 ∷ 48 ∷ 48 ∷ 48 ∷ 48 ∷ 48 ∷ 48 ∷ 48 ∷ 48 ∷ 48 ∷ 32 ∷ 48 ∷ 48 ∷ 48 ∷ 48 ∷ 48 ∷ 48 ∷ 48 ∷ 48 ∷ 48 ∷ 48 ∷ 48 ∷ 48 ∷ 48 ∷ 48 ∷ 48 ∷ 48 ∷ 32 ∷ 48 ∷ 48 ∷ 48 ∷ 48 ∷ 48 ∷ 48 ∷ 48 ∷ 48 ∷ 48 ∷ 48 ∷ 48 ∷ 48 ∷ 48 ∷ 48 ∷ 48 ∷ 48 ∷ 10 ∷ [])
@@ -38,13 +40,13 @@ unfolding at figures path_text head lines line numbers number bits_of paired lab
 two_poses = refl
 
 -- an empty path prints the first line alone
-no_poses : text_of (Ended.Divided figures) [] ≡ 112 ∷ 111 ∷ 115 ∷ 101 ∷ 115 ∷ 32 ∷ 48 ∷ 32 ∷ 105 ∷ 110 ∷ 115 ∷ 101 ∷ 114 ∷ 116 ∷ 101 ∷ 100 ∷ 32 ∷ 48 ∷ 32 ∷ 116 ∷ 117 ∷ 114 ∷ 110 ∷ 115 ∷ 32 ∷ 48 ∷ 32 ∷ 48 ∷ 10 ∷ []
+no_poses : text_of (Ok figures) [] ≡ 112 ∷ 111 ∷ 115 ∷ 101 ∷ 115 ∷ 32 ∷ 48 ∷ 32 ∷ 105 ∷ 110 ∷ 115 ∷ 101 ∷ 114 ∷ 116 ∷ 101 ∷ 100 ∷ 32 ∷ 48 ∷ 32 ∷ 116 ∷ 117 ∷ 114 ∷ 110 ∷ 115 ∷ 32 ∷ 48 ∷ 32 ∷ 48 ∷ 10 ∷ []
 unfolding figures path_text head lines paired labelled decimal width width_within digits digit
 no_poses = refl
 
 -- a refusal of no pose, and one of pose 12
-refusals : (text_of (Ended.Refused (Numbers.refusal 18 0)) [] ≡ 114 ∷ 101 ∷ 102 ∷ 117 ∷ 115 ∷ 101 ∷ 100 ∷ 32 ∷ 49 ∷ 56 ∷ 10 ∷ [])
-    × (text_of (Ended.AtPose (Numbers.refusal 25 12)) [] ≡ 114 ∷ 101 ∷ 102 ∷ 117 ∷ 115 ∷ 101 ∷ 100 ∷ 32 ∷ 50 ∷ 53 ∷ 32 ∷ 112 ∷ 111 ∷ 115 ∷ 101 ∷ 32 ∷ 49 ∷ 50 ∷ 10 ∷ [])
+refusals : (text_of (Err (JobError.Refused (Numbers.refusal Cause.Cone 0))) [] ≡ 114 ∷ 101 ∷ 102 ∷ 117 ∷ 115 ∷ 101 ∷ 100 ∷ 32 ∷ 49 ∷ 56 ∷ 10 ∷ [])
+    × (text_of (Err (JobError.AtPose (Numbers.refusal Cause.PoseUnreachable 12))) [] ≡ 114 ∷ 101 ∷ 102 ∷ 117 ∷ 115 ∷ 101 ∷ 100 ∷ 32 ∷ 50 ∷ 53 ∷ 32 ∷ 112 ∷ 111 ∷ 115 ∷ 101 ∷ 32 ∷ 49 ∷ 50 ∷ 10 ∷ [])
 unfolding refusal_text pose_text paired labelled decimal width width_within digits digit
 refusals = (refl, refl)
 
@@ -67,8 +69,8 @@ unfolding turns_of Ieee.sub Ieee.add Ieee.neg Ieee.round of_bits
 once = (refl, refl, refl, refl)
 
 -- ---- the reader, by what it refuses first: 60 bytes, whose trailer starts at 20
-breach : ℕ → JobRead
-breach at = JobRead.Refused (Numbers.refusal Numbers.malformed at)
+breach : ℕ → Result Job Refusal
+breach at = Err (Numbers.refusal Cause.Malformed at)
 
 -- the chain's offset, the count at offset 0
 file : ℕ → ℕ → List ℕ
@@ -77,7 +79,7 @@ file offset count = count ∷ replicate 19 0 ++ offset ∷ replicate 39 0
 -- 39 bytes; a chain from the trailer on; three rotaries; a chain past the trailer
 broken : (read_job (replicate 39 0) ≡ breach 0)
     × (read_job (file 20 1) ≡ breach 20)
-    × (read_job (file 0 3) ≡ JobRead.Refused (Numbers.refusal Numbers.rotary_count 0))
+    × (read_job (file 0 3) ≡ Err (Numbers.refusal Cause.RotaryCount 0))
     × (read_job (file 0 1) ≡ breach 20)
 unfolding breach file read_job word_length job_from job_fields sized places_in placed chain_end one_or_two little_endian
 broken = (refl, refl, refl, refl)
@@ -88,9 +90,9 @@ chained : List ℕ → ℕ → List ℕ → List ℕ → ℕ → List ℕ → �
 chained seven letter five min max rest poses word =
     1 ∷ seven ++ (letter ∷ 1 ∷ 0 ∷ five) ++ replicate 48 0 ++ min ++ replicate 7 0 ++ (max ∷ rest) ++ replicate 24 0 ++ (0 ∷ 0 ∷ 0 ∷ 0 ∷ poses ∷ 0 ∷ 0 ∷ 0 ∷ 0 ∷ 0 ∷ 0 ∷ 0 ∷ word ∷ replicate 27 0)
 
-reason : JobRead → ℕ × ℕ
-reason (JobRead.Job j) = (0, j.poses_at)
-reason (JobRead.Refused r) = (r.number, r.at)
+reason : Result Job Refusal → ℕ × ℕ
+reason (Ok j) = (0, j.poses_at)
+reason (Err r) = (Numbers.number_of r.cause, r.at)
 
 zeros_of : ℕ → List ℕ
 zeros_of n = replicate n 0

@@ -2,9 +2,10 @@
 -- ignored. `w` is the length of a rotary's record: 80 with a rest angle, where the trailer's word is 1, else 72.
 -- A breach is 29 with the offset, in the file, of the first bad field; a count of rotaries other than 1 or 2 is 3, a
 -- foreign letter 4 with its rotary.
-use Rattle.std.specs.Prelude.{ℕ, ◌+◌, ◌-◌, ◌*◌, ◌^◌, Bool, cond, not, ◌&&◌, ◌||◌, List, [], ◌∷◌, length, ◌==◌, nat_le, nat_lt}
-use Rattle.refusal.specs.Numbers as Numbers
-use Rattle.chain.specs.declared.Checked.{Checked}
+use Rattle.std.specs.Prelude.{ℕ, ◌+◌, ◌-◌, ◌*◌, ◌^◌, Bool, cond, not, ◌&&◌, ◌||◌, List, [], ◌∷◌, length, ◌==◌, nat_le, nat_lt, Err, Ok, Result}
+use Rattle.refusal.specs.declared.Refusal.{Refusal}
+use Rattle.refusal.specs.declared.Cause.{Cause}
+use Rattle.chain.specs.Checked.{Checked}
 use Rattle.chain.specs.declared.RotaryJoint.{RotaryJoint}
 use Rattle.chain.specs.declared.Kinematics.{Kinematics}
 use Rattle.chain.specs.Bytes.{byte_at, little_endian, number_at, vector_at}
@@ -12,7 +13,6 @@ use Rattle.chain.specs.Check.{demand, first_refusal, one_or_two, known_letter}
 use Rattle.chain.specs.ChainBytes.{empty_field, first_field, second_field, spindle_field, length_of_chain, letter_field, zeros, rotary_fields, rotary_at, no_rotary}
 use Rattle.job.specs.declared.Places.{Places}
 use Rattle.job.specs.declared.Job.{Job}
-use Rattle.job.specs.declared.JobRead.{JobRead}
 
 -- ---- the fields of the trailer, by where it starts
 abbrev pub trailer : List ℕ → ℕ
@@ -74,20 +74,20 @@ apart p chain_end poses_end = p.count == 0 || nat_le poses_end p.chain || nat_le
 unfoldable pub placed : ℕ → List ℕ → Places → ℕ → Checked
 placed w bytes p count =
     first_refusal
-    (demand (nat_lt p.chain (trailer bytes)) Numbers.malformed (chain_field (trailer bytes))
-    ∷ demand (one_or_two count) Numbers.rotary_count 0
-    ∷ demand (nat_le (chain_end w p count) (trailer bytes)) Numbers.malformed (chain_field (trailer bytes))
-    ∷ demand (nat_le (poses_end p) (trailer bytes)) Numbers.malformed (poses_field (trailer bytes))
-    ∷ demand (apart p (chain_end w p count) (poses_end p)) Numbers.malformed (poses_field (trailer bytes))
-    ∷ demand (nat_lt p.word 2) Numbers.malformed (word_field (trailer bytes))
+    (demand (nat_lt p.chain (trailer bytes)) Cause.Malformed (chain_field (trailer bytes))
+    ∷ demand (one_or_two count) Cause.RotaryCount 0
+    ∷ demand (nat_le (chain_end w p count) (trailer bytes)) Cause.Malformed (chain_field (trailer bytes))
+    ∷ demand (nat_le (poses_end p) (trailer bytes)) Cause.Malformed (poses_field (trailer bytes))
+    ∷ demand (apart p (chain_end w p count) (poses_end p)) Cause.Malformed (poses_field (trailer bytes))
+    ∷ demand (nat_lt p.word 2) Cause.Malformed (word_field (trailer bytes))
     ∷ [])
 
 -- ---- the chain, where it is
 unfoldable pub rotary_part : List ℕ → ℕ → ℕ → Checked
-rotary_part bytes at i = first_refusal (demand (known_letter (byte_at bytes (letter_field at))) Numbers.rotary_letter i ∷ rotary_fields bytes at ∷ [])
+rotary_part bytes at i = first_refusal (demand (known_letter (byte_at bytes (letter_field at))) Cause.RotaryLetter i ∷ rotary_fields bytes at ∷ [])
 
 unfoldable pub second_part : ℕ → List ℕ → Places → ℕ → Checked
-second_part w bytes p count = cond (count == 2) (rotary_part bytes (p.chain + second_field w) 1) Checked.Passed
+second_part w bytes p count = cond (count == 2) (rotary_part bytes (p.chain + second_field w) 1) (Ok tt)
 
 unfoldable pub chain_part : ℕ → List ℕ → Places → ℕ → Checked
 chain_part w bytes p count =
@@ -121,21 +121,21 @@ job_at w bytes p chain = record {
   chain = chain;
 }
 
-abbrev pub job_unless : Checked → Job → JobRead
-job_unless Checked.Passed job = JobRead.Job job
-job_unless (Checked.Refused r) job = JobRead.Refused r
+abbrev pub job_unless : Checked → Job → Result Job Refusal
+job_unless (Ok _) job = Ok job
+job_unless (Err r) job = Err r
 
 -- the whole list: the length, what the trailer says, the chain in byte order
 unfoldable pub job_fields : ℕ → List ℕ → Places → ℕ → Checked
 job_fields w bytes p count =
     first_refusal
-    (demand (sized (length bytes)) Numbers.malformed 0
+    (demand (sized (length bytes)) Cause.Malformed 0
     ∷ placed w bytes p count
     ∷ chain_part w bytes p count
     ∷ [])
 
-unfoldable pub job_from : ℕ → List ℕ → Places → ℕ → JobRead
+unfoldable pub job_from : ℕ → List ℕ → Places → ℕ → Result Job Refusal
 job_from w bytes p count = job_unless (job_fields w bytes p count) (job_at w bytes p (chain_in w bytes p count))
 
-unfoldable pub read_job : List ℕ → JobRead
+unfoldable pub read_job : List ℕ → Result Job Refusal
 read_job bytes = job_from (word_length (places_in bytes).word) bytes (places_in bytes) (byte_at bytes (places_in bytes).chain)

@@ -1,12 +1,23 @@
 -- Numbers as bytes of a text: decimal, and the bit pattern of a float in hexadecimal.
-use Rattle.std.specs.Prelude.{ℕ, zero, suc, ◌+◌, ◌/◌, ◌%◌, cond, List, [], ◌∷◌, ◌++◌, nat_lt, slice_set, to_bits, Float}
+use Rattle.std.specs.Prelude.{◌≡◌, ◌≤◌, ℕ, zero, suc, ◌+◌, ◌/◌, ◌%◌, cond, List, [], ◌∷◌, ◌++◌, length, nat_lt, slice_set, to_bits, Float}
 use Rattle.std.specs.Float.Ieee as Ieee
 use Rattle.std.specs.Float.{binary64}
+use Rattle.job.specs.declared.spelling.Page.{Page}
 
 -- a text over the bytes from an offset on
 unfoldable pub written : List ℕ → ℕ → List ℕ → List ℕ
 written out at [] = out
 written out at (b ∷ text) = written (slice_set out at b) (at + 1) text
+
+-- a text has room on a page
+pub record Fits (page : Page) (text : List ℕ) : Type 0 where
+  pub room : page.at + length text ≤ length page.out.now
+
+-- it is put there, over the same bytes, and the next goes behind it
+pub record Put (old : Page) (text : List ℕ) (new : Page) : Type 0 where
+  pub same : new.out.ghost_name ≡ old.out.ghost_name
+  pub whole : new.out.now ≡ written old.out.now old.at text
+  pub behind : new.at ≡ old.at + length text
 
 -- 0 to 9, then A to F
 unfoldable pub digit : ℕ → ℕ

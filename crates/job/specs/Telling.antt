@@ -1,12 +1,12 @@
 -- The text of an answer. A path: `poses`, how many; `inserted`, how many of them; `turns`, the cable numbers of the two rotaries; then a line for each joint set, its index and its five numbers by their bits.
 -- A refusal: `refused`, its number, and where it is of a pose, `pose` and the index. Each line ends with a newline.
-use Rattle.std.specs.Prelude.{ℕ, zero, suc, ◌+◌, Bool, cond, List, [], ◌∷◌, ◌++◌, length, nat_le}
+use Rattle.std.specs.Prelude.{ℕ, zero, suc, ◌+◌, Bool, cond, List, [], ◌∷◌, ◌++◌, length, nat_le, Err, Ok, Result}
 use Rattle.refusal.specs.Numbers as Numbers
+use Rattle.refusal.specs.declared.Cause.{Cause}
 use Rattle.chain.specs.declared.Joints.{Joints}
 use Rattle.job.specs.Spelling.{written, width, decimal, labelled, paired, number}
-use Rattle.job.specs.declared.Ended.{Ended}
 use Rattle.job.specs.declared.Figures.{Figures}
-use Rattle.job.specs.declared.Told.{Told}
+use Rattle.job.specs.declared.JobError.{JobError}
 use Rattle.refusal.specs.declared.Refusal.{Refusal}
 
 abbrev pub newline : List ℕ
@@ -63,23 +63,33 @@ unfoldable pub path_text : Figures → List Joints → List ℕ
 path_text f l = head f (length l) ++ lines 0 l
 
 unfoldable pub refusal_text : Refusal → List ℕ
-refusal_text r = labelled refused_word r.number ++ newline
+refusal_text r = labelled refused_word (Numbers.number_of r.cause) ++ newline
 
 unfoldable pub pose_text : Refusal → List ℕ
-pose_text r = paired refused_word r.number pose_word r.at ++ newline
+pose_text r = paired refused_word (Numbers.number_of r.cause) pose_word r.at ++ newline
 
--- which refusals name a pose is said by the answer itself
+-- the two in one, and what only the second has
+unfoldable pub refused_text : Refusal → Bool → List ℕ
+refused_text r of_pose = cond of_pose (pose_text r) (refusal_text r)
+
+unfoldable pub pose_part : ℕ → Bool → List ℕ
+pose_part at of_pose = cond of_pose (labelled pose_word at) []
+
+-- how a job ended: with a divided path, or without one; which refusals name a pose is said by the answer itself
+abbrev pub Ended : Type 0
+Ended = Result Figures JobError
+
 abbrev pub text_of : Ended → List Joints → List ℕ
-text_of (Ended.Divided f) l = path_text f l
-text_of (Ended.Refused r) l = refusal_text r
-text_of (Ended.AtPose r) l = pose_text r
+text_of (Ok f) l = path_text f l
+text_of (Err (JobError.Refused r)) l = refusal_text r
+text_of (Err (JobError.AtPose r)) l = pose_text r
 
 -- ---- the entry: 28 with count 0 where the text is longer than the buffer, which is then kept
-abbrev pub no_space : Told
-no_space = Told.Refused (Numbers.refusal Numbers.no_space 0)
+abbrev pub no_space : Result ℕ Refusal
+no_space = Err (Numbers.refusal Cause.NoSpace 0)
 
-unfoldable pub told : List ℕ → ℕ → Told
-told text room = cond (nat_le (length text) room) (Told.Bytes (length text)) no_space
+unfoldable pub told : List ℕ → ℕ → Result ℕ Refusal
+told text room = cond (nat_le (length text) room) (Ok (length text)) no_space
 
 unfoldable pub told_over : List ℕ → List ℕ → List ℕ
 told_over text out = cond (nat_le (length text) (length out)) (written out 0 text) out

@@ -1,50 +1,49 @@
-// A job from its bytes: the length, what the trailer says, then the chain in byte order. The chain's records are those of
-// the chain's own bytes (chain::rotary_fields, chain::rotary_at), read where the file has them, so that a breach has its
-// offset in the file. A record has w bytes.
+// A job from its bytes: the length, what the trailer says, then the chain in byte order. The chain's records are those
+// of the chain's own bytes (chain::rotary_fields, chain::rotary_at), read where the file has them, so that a breach
+// has its offset in the file. A record has w bytes.
 ghost use Rattle.std.specs.Prelude.{◌≡◌, ◌+◌, ◌*◌, ◌≤◌, length};
 ghost use Rattle.job.specs.JobBytes as S;
 
 use crate::placing::{placed, places_in, sized, word_length};
-use crate::{Job, JobRead, Places};
+use crate::{Job, Places};
 use chain::{
-    Checked, Kinematics, RotaryJoint, byte_at, demand, known_letter, no_rotary, number_at,
-    rotary_at, rotary_fields, then, vector_at, zeros,
+    Kinematics, RotaryJoint, byte_at, demand, known_letter, no_rotary, number_at, rotary_at,
+    rotary_fields, vector_at, zeros,
 };
-use refusal::Refusal;
+use refusal::{Cause, Refusal};
 
 // A rotary's record: the letter, then the rest in byte order.
-fn rotary_part(bytes: &[u8], at: usize, index: u64) -> Checked
+#[tactic(auto, unfolding(crate::specs::JobBytes::rotary_part))]
+fn rotary_part(bytes: &[u8], at: usize, index: u64) -> Result<(), Refusal>
     requires { at + 72 ≤ length bytes.now }
     ensures { result ≡ S.rotary_part bytes.now at index }
 {
-    let letter = demand(
-        known_letter(byte_at(bytes, at)),
-        refusal::ROTARY_LETTER,
-        index,
-    );
-    then(letter, rotary_fields(bytes, at))
+    demand(known_letter(byte_at(bytes, at)), Cause::RotaryLetter, index)?;
+    rotary_fields(bytes, at)
 }
 
-fn second_part(w: usize, bytes: &[u8], p: Places, count: u8) -> Checked
+#[tactic(auto, using(crate::proofs::JobBetween::two), unfolding(crate::specs::JobBytes::second_part))]
+fn second_part(w: usize, bytes: &[u8], p: Places, count: u8) -> Result<(), Refusal>
     requires { (72 ≤ w) × (p.chain + (32 + w * count) ≤ length bytes.now) }
     ensures { result ≡ S.second_part w bytes.now p count }
 {
     if count == 2 {
         return rotary_part(bytes, p.chain as usize + (8 + w), 1);
     }
-    Checked::Passed
+    Ok(())
 }
 
-fn chain_part(w: usize, bytes: &[u8], p: Places, count: u8) -> Checked
+#[tactic(auto, unfolding(crate::specs::JobBytes::chain_part))]
+fn chain_part(w: usize, bytes: &[u8], p: Places, count: u8) -> Result<(), Refusal>
     requires { (1 ≤ count) × (72 ≤ w) × (p.chain + (32 + w * count) ≤ length bytes.now) }
     ensures { result ≡ S.chain_part w bytes.now p count }
 {
-    let empty = zeros(bytes, p.chain as usize + 1, 7);
-    let first = rotary_part(bytes, p.chain as usize + 8, 0);
-    let second = second_part(w, bytes, p, count);
-    then(empty, then(first, second))
+    zeros(bytes, p.chain as usize + 1, 7)?;
+    rotary_part(bytes, p.chain as usize + 8, 0)?;
+    second_part(w, bytes, p, count)
 }
 
+#[tactic(auto, using(crate::proofs::JobBetween::two), unfolding(crate::specs::JobBytes::second_in))]
 fn second_in(w: usize, bytes: &[u8], p: Places, count: u8) -> RotaryJoint
     requires { (72 ≤ w) × (p.chain + (32 + w * count) ≤ length bytes.now) }
     ensures { result ≡ S.second_in w bytes.now p count }
@@ -55,6 +54,7 @@ fn second_in(w: usize, bytes: &[u8], p: Places, count: u8) -> RotaryJoint
     no_rotary()
 }
 
+#[tactic(auto, using(crate::proofs::JobBetween::more), unfolding(crate::specs::JobBytes::chain_in))]
 fn chain_in(w: usize, bytes: &[u8], p: Places, count: u8) -> Kinematics
     requires { (1 ≤ count) × (72 ≤ w) × (p.chain + (32 + w * count) ≤ length bytes.now) }
     ensures { result ≡ S.chain_in w bytes.now p count }
@@ -70,6 +70,7 @@ fn chain_in(w: usize, bytes: &[u8], p: Places, count: u8) -> Kinematics
     }
 }
 
+#[tactic(auto, using(chain::proofs::Bytes::product_most), unfolding(crate::specs::JobBytes::job_at))]
 fn job_at(w: usize, bytes: &[u8], p: Places, chain: Kinematics) -> Job
     requires { (w ≤ 80) × (40 ≤ length bytes.now) }
     ensures { result ≡ S.job_at w bytes.now p chain }
@@ -92,27 +93,15 @@ fn job_at(w: usize, bytes: &[u8], p: Places, chain: Kinematics) -> Job
 }
 
 // The job, or the first breach of its bytes.
-pub fn read_job(bytes: &[u8]) -> JobRead
+pub fn read_job(bytes: &[u8]) -> Result<Job, Refusal>
     ensures { result ≡ S.read_job bytes.now }
 {
-    if !sized(bytes.len()) {
-        return JobRead::Refused(Refusal {
-            number: refusal::MALFORMED,
-            at: 0,
-            letter: 0,
-        });
-    }
+    demand(sized(bytes.len()), Cause::Malformed, 0)?;
     let p = places_in(bytes);
     let count = byte_at(bytes, p.chain as usize);
     let w = word_length(p.word);
-    let parts = placed(w, bytes, p, count);
-    if let Checked::Refused(r) = parts {
-        return JobRead::Refused(r);
-    }
-    let fields = chain_part(w, bytes, p, count);
-    if let Checked::Refused(s) = fields {
-        return JobRead::Refused(s);
-    }
+    placed(w, bytes, p, count)?;
+    chain_part(w, bytes, p, count)?;
     let chain = chain_in(w, bytes, p, count);
-    JobRead::Job(job_at(w, bytes, p, chain))
+    Ok(job_at(w, bytes, p, chain))
 }

@@ -1,5 +1,9 @@
-// A job: its bytes, the cable number of a rotary on its path, and the text of its answer. Everything is read from lent bytes and numbers; a refusal keeps all that is lent.
+// A job: its bytes, the cable number of a rotary on its path, and the text of its answer. Everything is read from lent
+// bytes and numbers; a refusal keeps all that is lent.
 #![tactic(auto)]
+
+ghost use Rattle.std.specs.Prelude.{◌≡◌};
+ghost use Rattle.job.specs.declared.JobError.TheVariants.{Refused};
 
 mod job_bytes;
 mod lending;
@@ -13,12 +17,12 @@ pub use job_bytes::read_job;
 pub use lending::job_poses;
 pub use placing::word_length;
 use refusal::Refusal;
-pub use spelling::bits_of;
+pub use spelling::{bits_of, put_bytes};
 pub use telling::answer_text;
 pub use winding::cable_number;
 
-// What the trailer says: where chain and poses start, counted from the first byte of the file, how many poses there are,
-// and a word: 1 where each rotary's record has a rest angle, 0 where none has.
+// What the trailer says: where chain and poses start, counted from the first byte of the file, how many poses there
+// are, and a word: 1 where each rotary's record has a rest angle, 0 where none has.
 #[derive(Clone, Copy)]
 pub struct Places {
     pub chain: u32,
@@ -40,13 +44,8 @@ pub struct Job {
     pub chain: Kinematics,
 }
 
-#[derive(Clone, Copy)]
-pub enum JobRead {
-    Job(Job),
-    Refused(Refusal),
-}
-
-// What one reading of a path's joint sets finds: whether all are finite, whether all are within the limits of size, and the most whole turns of a rotary.
+// What one reading of a path's joint sets finds: whether all are finite, whether all are within the limits of size,
+// and the most whole turns of a rotary.
 #[derive(Clone, Copy)]
 pub struct Survey {
     pub finite: bool,
@@ -54,13 +53,8 @@ pub struct Survey {
     pub turns: u64,
 }
 
-#[derive(Clone, Copy)]
-pub enum Cable {
-    Turns(u64),
-    Refused(Refusal),
-}
-
-// What the first line of a path's text says beside its length: how many poses were inserted, and the cable numbers of the two rotaries.
+// What the first line of a path's text says beside its length: how many poses were inserted, and the cable numbers of
+// the two rotaries.
 #[derive(Clone, Copy)]
 pub struct Figures {
     pub inserted: u64,
@@ -68,17 +62,17 @@ pub struct Figures {
     pub second: u64,
 }
 
-// How a job ended: with a divided path, or with a refusal, which may be one of a pose.
+// Why a job ended without a divided path: with a refusal, which may be one of a pose.
 #[derive(Clone, Copy)]
-pub enum Ended {
-    Divided(Figures),
+pub enum JobError {
     Refused(Refusal),
     AtPose(Refusal),
 }
 
-// How many bytes a text has, or that there is no room for it.
-#[derive(Clone, Copy)]
-pub enum Told {
-    Bytes(usize),
-    Refused(Refusal),
+impl From<Refusal> for JobError {
+    ghost from_gives = { λ r e. e ≡ Refused r };
+
+    fn from(r: Refusal) -> JobError {
+        JobError::Refused(r)
+    }
 }

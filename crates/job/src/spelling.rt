@@ -2,28 +2,30 @@
 ghost use Rattle.std.specs.Prelude.{◌≡◌, ◌+◌, ◌<◌, ◌≤◌, length};
 ghost use Rattle.job.specs.Spelling as S;
 
+use std::num::f64_to_bits_with_nan;
+
 // 0 to 9, then A to F.
+#[tactic(auto, unfolding(crate::specs::Spelling::digit))]
 fn digit(d: u64) -> u8
     requires { d < 16 }
     ensures { result ≡ S.digit d }
 {
     if d < 10 {
-        return (48 + d) as u8;
+        b'0' + d as u8
+    } else {
+        b'A' + (d - 10) as u8
     }
-    (55 + d) as u8
 }
 
-// The last n digits of x to a base, the last one last.
-fn put_digits(base: u64, n: usize, x: u64, out: &mut [u8], at: usize)
-    requires { (2 ≤ base) × (base ≤ 16) × (at + n ≤ length out.old) }
-    ensures { out.new ≡ S.written out.old at (S.digits base n x) }
+// 16 hexadecimal digits.
+fn put_hexadecimal(x: u64, out: &mut [u8], at: usize)
+    requires { at + 16 ≤ length out.old }
+    ensures { out.new ≡ S.written out.old at (S.digits 16 16 x) }
 {
     let mut rest = x;
-    let mut i = n;
-    while 0 < i {
-        i -= 1;
-        out[at + i] = digit(rest % base);
-        rest = rest / base;
+    for i in (0..16).rev() {
+        out[at + i] = digit(rest % 16);
+        rest /= 16;
     }
 }
 
@@ -32,73 +34,65 @@ pub fn width(x: u64) -> usize
     ensures width { result ≡ S.width x }
     ensures few { result ≤ 20 }
 {
-    let mut rest = x;
-    let mut n = 1;
-    while 9 < rest {
-        rest = rest / 10;
-        n += 1;
-    }
-    n
-}
-
-// Answers where the digits end.
-pub fn put_decimal(x: u64, out: &mut [u8], at: usize) -> usize
-    requires { at + S.width x ≤ length out.old }
-    ensures end { result ≡ at + S.width x }
-    ensures lent { out.new ≡ S.written out.old at (S.decimal x) }
-{
-    let n = width(x);
-    put_digits(10, n, x, out, at);
-    at + n
+    if x == 0 { 1 } else { x.ilog10() as usize + 1 }
 }
 
 pub fn put_bytes(text: &[u8], out: &mut [u8], at: usize)
     requires { at + length text.now ≤ length out.old }
     ensures { out.new ≡ S.written out.old at text.now }
 {
-    let mut i = 0;
-    while i < text.len() {
-        out[at + i] = text[i];
-        i += 1;
-    }
-}
-
-// A word, then a number. Answers where they end.
-pub fn put_labelled(label: &[u8], x: u64, out: &mut [u8], at: usize) -> usize
-    requires { at + (length label.now + S.width x) ≤ length out.old }
-    ensures end { result ≡ at + (length label.now + S.width x) }
-    ensures lent { out.new ≡ S.written out.old at (S.labelled label.now x) }
-{
-    put_bytes(label, out, at);
-    put_decimal(x, out, at + label.len())
-}
-
-// A word and a number, twice. Answers where they end.
-pub fn put_paired(label: &[u8], x: u64, word: &[u8], y: u64, out: &mut [u8], at: usize) -> usize
-    requires { at + (length label.now + S.width x + (length word.now + S.width y)) ≤ length out.old }
-    ensures end { result ≡ at + (length label.now + S.width x + (length word.now + S.width y)) }
-    ensures lent { out.new ≡ S.written out.old at (S.paired label.now x word.now y) }
-{
-    let next = put_labelled(label, x, out, at);
-    put_labelled(word, y, out, next)
+    out[at..at + text.len()].copy_from_slice(text);
 }
 
 // The bit pattern; of every nan that of the one nan, though no answer has any.
 pub fn bits_of(x: f64) -> u64
     ensures { result ≡ S.bits_of x }
 {
-    if x != x {
-        return 9221120237041090560;
-    }
-    f64::to_bits(x)
+    f64_to_bits_with_nan(x)
 }
 
-// A space and 16 hexadecimal digits.
-pub fn put_number(x: f64, out: &mut [u8], at: usize)
-    requires { at + 17 ≤ length out.old }
-    ensures { out.new ≡ S.written out.old at (S.number x) }
-{
-    let bits = bits_of(x);
-    out[at] = 32;
-    put_digits(16, 16, bits, out, at + 1);
+// Bytes, and where the next of a text goes.
+#[derive(Drop)]
+pub struct Page<'a> {
+    pub out: &'a mut [u8],
+    pub at: usize,
+}
+
+impl Page<'_> {
+    pub fn put(&mut self, text: &[u8])
+        requires { S.Fits self.old text.now }
+        ensures { S.Put self.old text.now self.new }
+    {
+        put_bytes(text, self.out, self.at);
+        self.at += text.len();
+    }
+
+    pub fn put_decimal(&mut self, x: u64)
+        requires { S.Fits self.old (S.decimal x) }
+        ensures { S.Put self.old (S.decimal x) self.new }
+    {
+        let mut buffer = itoa::Buffer::new();
+        self.put(buffer.format(x).as_bytes());
+    }
+
+    // A word, then a number.
+    #[tactic(auto, using(crate::proofs::Written::fits_next), unfolding(crate::specs::Spelling::labelled))]
+    pub fn put_labelled(&mut self, label: &[u8], x: u64)
+        requires { S.Fits self.old (S.labelled label.now x) }
+        ensures { S.Put self.old (S.labelled label.now x) self.new }
+    {
+        self.put(label);
+        self.put_decimal(x);
+    }
+
+    // A space and 16 hexadecimal digits.
+    pub fn put_number(&mut self, x: f64)
+        requires { S.Fits self.old (S.number x) }
+        ensures { S.Put self.old (S.number x) self.new }
+    {
+        let bits = bits_of(x);
+        self.out[self.at] = b' ';
+        put_hexadecimal(bits, self.out, self.at + 1);
+        self.at += 17;
+    }
 }

@@ -1,54 +1,72 @@
-// The text of an answer, in a lent buffer: the path with its figures, a line for each joint set, or a refusal, with the pose where there is one. What has no room is 28 with count 0, and the buffer is kept; bytes
-// behind a text stay.
-ghost use Rattle.std.specs.Prelude.{◌≡◌, ◌+◌, ◌*◌, ◌/◌, ◌≤◌, length};
-ghost use Rattle.job.specs.Spelling.{width, written};
+// The text of an answer, in a lent buffer: the path with its figures, a line for each joint set, or a refusal, with
+// the pose where there is one. What has no room is 28 with count 0, and the buffer is kept; bytes behind a text stay.
+ghost use Rattle.std.specs.Prelude.{◌≡◌, ◌≤◌, length};
+ghost use Rattle.job.specs.Spelling.{Fits, Put};
 ghost use Rattle.job.specs.Cable.{joint_sets};
 ghost use Rattle.job.specs.Telling as S;
 
-use crate::spelling::{put_decimal, put_labelled, put_number, put_paired, width};
-use crate::{Ended, Figures, Told};
+use crate::spelling::{Page, width};
+use crate::{Figures, JobError};
 use chain::Joints;
-use refusal::Refusal;
+use refusal::{Cause, Refusal};
 
-// ---- a line
-fn put_numbers(j: Joints, out: &mut [u8], at: usize)
-    requires { at + 86 ≤ length out.old }
-    ensures { out.new ≡ written out.old at (S.numbers j) }
-{
-    let xyz = j.xyz;
-    put_number(xyz.x, out, at);
-    put_number(xyz.y, out, at + 17);
-    put_number(xyz.z, out, at + 34);
-    put_number(j.a0, out, at + 51);
-    put_number(j.a1, out, at + 68);
-    out[at + 85] = 10;
-}
-
-fn put_line(i: u64, j: Joints, out: &mut [u8], at: usize) -> usize
-    requires { at + (width i + 86) ≤ length out.old }
-    ensures end { result ≡ at + (width i + 86) }
-    ensures lent { out.new ≡ written out.old at (S.line i j) }
-{
-    let next = put_decimal(i, out, at);
-    put_numbers(j, out, next);
-    next + 86
-}
-
-// ---- the lines
-fn put_lines(joints: &[f64], out: &mut [u8], at: usize) -> usize
-    requires { at + S.lines_length (length joints.now / 5) ≤ length out.old }
-    ensures end { result ≡ at + S.lines_length (length joints.now / 5) }
-    ensures lent { out.new ≡ written out.old at (S.lines 0 (joint_sets joints.now)) }
-{
-    let n = joints.len() / 5;
-    let mut end = at;
-    let mut i = 0;
-    while i < n {
-        let j = turn::joints_in(joints, i * 5);
-        end = put_line(i as u64, j, out, end);
-        i += 1;
+// ---- what is put
+impl Page<'_> {
+    #[tactic(auto, unfolding(crate::specs::Telling::numbers))]
+    fn put_numbers(&mut self, j: Joints)
+        requires { Fits self.old (S.numbers j) }
+        ensures { Put self.old (S.numbers j) self.new }
+    {
+        let xyz = j.xyz;
+        self.put_number(xyz.x);
+        self.put_number(xyz.y);
+        self.put_number(xyz.z);
+        self.put_number(j.a0);
+        self.put_number(j.a1);
+        self.put(b"\n");
     }
-    end
+
+    #[tactic(auto, using(crate::proofs::Written::fits_next), unfolding(crate::specs::Telling::line))]
+    fn put_line(&mut self, i: u64, j: Joints)
+        requires { Fits self.old (S.line i j) }
+        ensures { Put self.old (S.line i j) self.new }
+    {
+        self.put_decimal(i);
+        self.put_numbers(j);
+    }
+
+    fn put_lines(&mut self, joints: &[f64])
+        requires { Fits self.old (S.lines 0 (joint_sets joints.now)) }
+        ensures { Put self.old (S.lines 0 (joint_sets joints.now)) self.new }
+    {
+        let n = joints.len() / 5;
+        for i in 0..n {
+            let j = turn::joints_in(joints, i * 5);
+            self.put_line(i as u64, j);
+        }
+    }
+
+    #[tactic(auto, unfolding(crate::specs::Telling::head, crate::specs::Spelling::paired))]
+    fn put_head(&mut self, f: Figures, n: u64)
+        requires { Fits self.old (S.head f n) }
+        ensures { Put self.old (S.head f n) self.new }
+    {
+        self.put_labelled(b"poses ", n);
+        self.put_labelled(b" inserted ", f.inserted);
+        self.put_labelled(b" turns ", f.first);
+        self.put_labelled(b" ", f.second);
+        self.put(b"\n");
+    }
+
+    // Nothing of a refusal of no pose.
+    fn put_pose(&mut self, at: u64, of_pose: bool)
+        requires { Fits self.old (S.pose_part at of_pose) }
+        ensures { Put self.old (S.pose_part at of_pose) self.new }
+    {
+        if of_pose {
+            self.put_labelled(b" pose ", at);
+        }
+    }
 }
 
 // Whether n lines fit behind what is used.
@@ -60,19 +78,18 @@ fn lines_fit(n: usize, used: usize, room: usize) -> bool
         return false;
     }
     let mut left = room - used;
-    let mut i = 0;
-    while i < n {
+    for i in 0..n {
         let needed = width(i as u64) + 86;
         if left < needed {
             return false;
         }
         left -= needed;
-        i += 1;
     }
     true
 }
 
 // ---- the first line
+#[tactic(auto, unfolding(crate::specs::Telling::head_length))]
 fn head_length(f: Figures, n: u64) -> usize
     ensures { result ≡ S.head_length f n }
 {
@@ -83,29 +100,15 @@ fn head_length(f: Figures, n: u64) -> usize
     25 + (poses + inserted + first + second)
 }
 
-fn put_head(f: Figures, n: u64, out: &mut [u8]) -> usize
-    requires { S.head_length f n ≤ length out.old }
-    ensures end { result ≡ S.head_length f n }
-    ensures lent { out.new ≡ written out.old 0 (S.head f n) }
-{
-    let next = put_paired(b"poses ", n, b" inserted ", f.inserted, out, 0);
-    let end = put_paired(b" turns ", f.first, b" ", f.second, out, next);
-    out[end] = 10;
-    end + 1
-}
-
 // ---- the texts
-fn no_space() -> Told
+// One refusal of three texts, under the name that the contracts have for it.
+fn no_space() -> Result<usize, Refusal>
     ensures { result ≡ S.no_space }
 {
-    Told::Refused(Refusal {
-        number: refusal::NO_SPACE,
-        at: 0,
-        letter: 0,
-    })
+    Err(Refusal::new(Cause::NoSpace, 0))
 }
 
-fn path_text(f: Figures, joints: &[f64], out: &mut [u8]) -> Told
+fn path_text(f: Figures, joints: &[f64], out: &mut [u8]) -> Result<usize, Refusal>
     ensures told { result ≡ S.told (S.path_text f (joint_sets joints.now)) (length out.old) }
     ensures lent { out.new ≡ S.told_over (S.path_text f (joint_sets joints.now)) out.old }
 {
@@ -114,46 +117,50 @@ fn path_text(f: Figures, joints: &[f64], out: &mut [u8]) -> Told
     if !lines_fit(n, used, out.len()) {
         return no_space();
     }
-    let at = put_head(f, n as u64, out);
-    let end = put_lines(joints, out, at);
-    Told::Bytes(end)
+    let mut page = Page { out, at: 0 };
+    page.put_head(f, n as u64);
+    page.put_lines(joints);
+    Ok(page.at)
 }
 
-fn refusal_text(r: Refusal, out: &mut [u8]) -> Told
-    ensures told { result ≡ S.told (S.refusal_text r) (length out.old) }
-    ensures lent { out.new ≡ S.told_over (S.refusal_text r) out.old }
+fn refused_length(r: Refusal, of_pose: bool) -> usize
+    ensures { result ≡ length (S.refused_text r of_pose) }
 {
-    let number = width(r.number as u64);
-    if out.len() < 9 + number {
-        return no_space();
+    let refused = 9 + width(r.cause.number() as u64);
+    if of_pose {
+        refused + (6 + width(r.at))
+    } else {
+        refused
     }
-    let end = put_labelled(b"refused ", r.number as u64, out, 0);
-    out[end] = 10;
-    Told::Bytes(end + 1)
 }
 
-fn pose_text(r: Refusal, out: &mut [u8]) -> Told
-    ensures told { result ≡ S.told (S.pose_text r) (length out.old) }
-    ensures lent { out.new ≡ S.told_over (S.pose_text r) out.old }
+fn refused_text(r: Refusal, of_pose: bool, out: &mut [u8]) -> Result<usize, Refusal>
+    ensures told { result ≡ S.told (S.refused_text r of_pose) (length out.old) }
+    ensures lent { out.new ≡ S.told_over (S.refused_text r of_pose) out.old }
 {
-    let number = width(r.number as u64);
-    let pose = width(r.at);
-    if out.len() < 15 + (number + pose) {
+    if out.len() < refused_length(r, of_pose) {
         return no_space();
     }
-    let end = put_paired(b"refused ", r.number as u64, b" pose ", r.at, out, 0);
-    out[end] = 10;
-    Told::Bytes(end + 1)
+    let mut page = Page { out, at: 0 };
+    page.put_labelled(b"refused ", r.cause.number() as u64);
+    page.put_pose(r.at, of_pose);
+    page.put(b"\n");
+    Ok(page.at)
 }
 
 // The text of what a job came to; `joints` is its divided path.
-pub fn answer_text(ended: Ended, joints: &[f64], out: &mut [u8]) -> Told
+#[tactic(auto, unfolding(crate::specs::Telling::refused_text))]
+pub fn answer_text(
+    ended: Result<Figures, JobError>,
+    joints: &[f64],
+    out: &mut [u8],
+) -> Result<usize, Refusal>
     ensures told { result ≡ S.told (S.text_of ended (joint_sets joints.now)) (length out.old) }
     ensures lent { out.new ≡ S.told_over (S.text_of ended (joint_sets joints.now)) out.old }
 {
     match ended {
-        Ended::Divided(f) => path_text(f, joints, out),
-        Ended::Refused(r) => refusal_text(r, out),
-        Ended::AtPose(s) => pose_text(s, out),
+        Ok(f) => path_text(f, joints, out),
+        Err(JobError::Refused(r)) => refused_text(r, false, out),
+        Err(JobError::AtPose(r)) => refused_text(r, true, out),
     }
 }

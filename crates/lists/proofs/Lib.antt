@@ -4,3 +4,4 @@ pub mod Search
 pub mod Padding
 pub mod Tests
 pub mod Each
+pub mod Library

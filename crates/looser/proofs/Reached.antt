@@ -1,13 +1,13 @@
 -- The axis that joints reach on a checked chain has finite numbers: `reached-finite`.
 use mathlib.Core.Path.{◌≡◌}
 use mathlib.Core.Bool.{true}
+use Rattle.std.specs.Prelude.{Ok}
 use Rattle.geometry.specs.declared.Vec3.{Vec3}
 use Rattle.geometry.specs.declared.Turn.{Turn}
 use Rattle.geometry.specs.Turn.{rotate_vector}
 use Rattle.geometry.specs.Direction.{all_finite}
 use Rattle.geometry.proofs.FitVectors.{FitVec, added_fits, unit_or_fits}
-use Rattle.refusal.specs.Numbers.{rotary_count, chain_not_finite}
-use Rattle.chain.specs.declared.Checked.TheVariants as Checked
+use Rattle.refusal.specs.declared.Cause.{Cause}
 use Rattle.chain.specs.declared.Joints.{Joints}
 use Rattle.chain.specs.declared.Kinematics.{Kinematics}
 use Rattle.chain.specs.declared.Mount.{Mount}
@@ -51,17 +51,17 @@ reached_fits p t f =
     table_fits p.second t.second _ (table_fits p.first t.first _ (head_fits p.first t.first _ (head_fits p.second t.second p.spindle f)))
 
 -- ---- the spindle: of a vector of doubles
-spindle_finite : (k : Kinematics) → path_chain k ≡ Checked.Passed → all_finite k.spindle_axis ≡ true
+spindle_finite : (k : Kinematics) → path_chain k ≡ Ok tt → all_finite k.spindle_axis ≡ true
 unfolding path_chain chain_check
 spindle_finite k e =
     let z = then_passed (chain_check k) _ e in
-    let a = then_passed (demand (one_or_two k.count) rotary_count 0) _ z.0 in
+    let a = then_passed (demand (one_or_two k.count) Cause.RotaryCount 0) _ z.0 in
     let b = then_passed (rotary_check k.first 0 0) _ a.1 in
     let c = then_passed (second_check k) _ b.1 in
-    let d = then_passed (demand (all_finite k.spindle_axis) chain_not_finite 0) _ c.1 in
-    demand_passed (all_finite k.spindle_axis) chain_not_finite 0 d.0
+    let d = then_passed (demand (all_finite k.spindle_axis) Cause.ChainNotFinite 0) _ c.1 in
+    demand_passed (all_finite k.spindle_axis) Cause.ChainNotFinite 0 d.0
 
-module _ (k : Kinematics) (passed : path_chain k ≡ Checked.Passed) (fit : FitVec k.spindle_axis) where
+module _ (k : Kinematics) (passed : path_chain k ≡ Ok tt) (fit : FitVec k.spindle_axis) where
   spindle_fits : FitVec (prepared k).spindle
   unfolding prepared unit_axis
   spindle_fits = unit_or_fits k.spindle_axis k.spindle_axis fit

@@ -1,9 +1,8 @@
 -- The unit vector of a vector of doubles has finite numbers, since none is above 2 in size (`unit-small` of geometry).
 use mathlib.Core.Path.{◌≡◌, refl}
 use mathlib.Core.Bool.{true}
+use Rattle.std.specs.Prelude.{None, Option, Some}
 use Rattle.geometry.specs.declared.Vec3.{Vec3}
-use Rattle.geometry.specs.declared.Direction.{Direction}
-use Rattle.geometry.specs.declared.Direction.TheVariants.{Unit, Nowhere}
 use Rattle.geometry.specs.Direction.{all_finite, along, unit_direction, unit_or}
 use Rattle.geometry.proofs.FitVectors.{FitVec}
 use Rattle.geometry.proofs.Bounded.{vec_finite}
@@ -13,6 +12,6 @@ pub unit_or_finite : (v fallback : Vec3) → FitVec v → all_finite fallback �
 unfolding unit_or
 unit_or_finite v fallback fit h = go (unit_direction v) refl
   where
-    go : (d : Direction) → unit_direction v ≡ d → all_finite (along d fallback (λ u. u)) ≡ true
-    go (Unit u) e = vec_finite 1 u (unit_small v u fit e)
-    go Nowhere e = h
+    go : (d : Option Vec3) → unit_direction v ≡ d → all_finite (along d fallback (λ u. u)) ≡ true
+    go (Some u) e = vec_finite 1 u (unit_small v u fit e)
+    go None e = h

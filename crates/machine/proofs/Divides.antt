@@ -7,6 +7,7 @@ use borrow.Author.Tests.{lt-leb}
 use lib.ListN.{length, get_or, take, drop}
 use lib.Seq.{get_or-take}
 use lib.Ieee.{Float}
+use Rattle.std.specs.Prelude.{Err, Ok}
 use Rattle.float.specs.Helpers.{nought}
 use Rattle.lists.specs.Padding.{padded}
 use Rattle.lists.specs.Rows.{flat}
@@ -16,23 +17,21 @@ use Rattle.halving.specs.Halving.{Answer}
 use Rattle.halving.proofs.Machine.{State, start_placed}
 use Rattle.chain.specs.declared.Prepared.{Prepared}
 use Rattle.path.specs.Solving.{joint_numbers}
+use Rattle.turn.specs.declared.Stop.{Stop}
 use Rattle.turn.specs.Items.{pose_numbers, item, items_in}
 use Rattle.middle.specs.Testing.{divides, midpoint}
-use Rattle.turn.specs.Turning.{most, axis_at, end_at_start, begun, absent, reached}
-use Rattle.machine.specs.Dividing.{division_after, divided_in, poses_over, joints_over, Ready, halved_from, RanTo, Ran, staying, answer_in}
-use Rattle.machine.specs.declared.Divided.{Divided}
+use Rattle.turn.specs.Turning.{most, axis_at, end_at_start, begun, absent, reached, Turn}
+use Rattle.machine.specs.Dividing.{division_after, divided_in, poses_over, joints_over, Ready, halved_from, RanTo, Ran, staying, answer_in, Divided}
 use Rattle.middle.specs.declared.Item.{Item}
 use Rattle.turn.specs.declared.Machine.{Machine}
 use Rattle.middle.specs.declared.Tolerances.{Tolerances}
-use Rattle.turn.specs.declared.Turn.{Turn}
-use Rattle.turn.specs.declared.Turn.TheVariants.{On, TooMany, NoSpace}
 use Rattle.turn.proofs.Stored.{pose_codec, joints_codec, items_length}
 use Rattle.turn.proofs.Running.{axis_there}
 
 staying_least : (answer : Answer Item) (space : ℕ) (poses joints : List Float) (r : Turn) → RanTo answer space poses joints r → staying r ≤ space
-staying_least answer space poses joints (On last) h = h.1
-staying_least answer space poses joints (TooMany n) h = omega arith
-staying_least answer space poses joints (NoSpace n) h = omega arith
+staying_least answer space poses joints (Ok last) h = h.1
+staying_least answer space poses joints (Err (Stop.TooMany n)) h = omega arith
+staying_least answer space poses joints (Err (Stop.NoSpace n)) h = omega arith
 
 pub staying_fits : {answer : Answer Item} {space : ℕ} {poses joints : List Float} {r : Turn} → Ran answer space poses joints r → space * 6 ≤ length poses → space * 5 ≤ length joints
     → (staying r * 6 ≤ length poses) × (staying r * 5 ≤ length joints)
@@ -105,13 +104,13 @@ left_by : (answer : Answer Item) (space : ℕ) (poses₀ joints₀ poses joints 
     → length poses ≡ length poses₀ → length joints ≡ length joints₀ → space * 6 ≤ length poses → space * 5 ≤ length joints
     → said ≡ answer_in r → poses' ≡ padded (length poses) nought (take (staying r * 6) poses) → joints' ≡ padded (length joints) nought (take (staying r * 5) joints)
     → (said ≡ divided_in answer) × ((poses' ≡ poses_over answer poses₀) × (joints' ≡ joints_over answer joints₀))
-left_by answer space poses₀ joints₀ poses joints (On last) h a b c d e f g =
+left_by answer space poses₀ joints₀ poses joints (Ok last) h a b c d e f g =
     let k = h.1 in
     let x : last.placed * 6 ≤ length poses = omega (arith, k, c) in
     let y : last.placed * 5 ≤ length joints = omega (arith, k, d) in
     rw h.0 (e, (rw (poses_flat last.placed poses joints x, ← a) f, rw (joints_flat last.placed poses joints y, ← b) g))
-left_by answer space poses₀ joints₀ poses joints (TooMany n) h a b c d e f g = rw h (e, (rw (← a, ← padded_nil (length poses) nought) f, rw (← b, ← padded_nil (length joints) nought) g))
-left_by answer space poses₀ joints₀ poses joints (NoSpace n) h a b c d e f g = rw h (e, (rw (← a, ← padded_nil (length poses) nought) f, rw (← b, ← padded_nil (length joints) nought) g))
+left_by answer space poses₀ joints₀ poses joints (Err (Stop.TooMany n)) h a b c d e f g = rw h (e, (rw (← a, ← padded_nil (length poses) nought) f, rw (← b, ← padded_nil (length joints) nought) g))
+left_by answer space poses₀ joints₀ poses joints (Err (Stop.NoSpace n)) h a b c d e f g = rw h (e, (rw (← a, ← padded_nil (length poses) nought) f, rw (← b, ← padded_nil (length joints) nought) g))
 
 pub left_so : {answer : Answer Item} {space : ℕ} {poses joints : List Float} {r : Turn} (poses₀ joints₀ : List Float) {poses' joints' : List Float} {said : Divided} → Ran answer space poses joints r
     → length poses ≡ length poses₀ → length joints ≡ length joints₀ → space * 6 ≤ length poses₀ → space * 5 ≤ length joints₀

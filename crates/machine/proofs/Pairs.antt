@@ -15,9 +15,8 @@ use Rattle.chain.specs.declared.Prepared.{Prepared}
 use Rattle.turn.specs.Items.{items_in, poses_with, joints_with}
 use Rattle.middle.specs.Testing.{divides, midpoint}
 use Rattle.turn.specs.Turning.{most}
-use Rattle.machine.specs.Dividing.{division_after, divided_in, poses_over, joints_over}
+use Rattle.machine.specs.Dividing.{division_after, divided_in, poses_over, joints_over, Divided}
 use Rattle.machine.specs.Filling.{pair_halved, counted, recounted, count_in}
-use Rattle.machine.specs.declared.Divided.{Divided}
 use Rattle.middle.specs.declared.Item.{Item}
 use Rattle.middle.specs.declared.Tolerances.{Tolerances}
 use Rattle.turn.proofs.Stored.{items_length, item_set, poses_with_long, joints_with_long}
@@ -105,10 +104,10 @@ pair_filled p tol space had left right poses joints {o₂ = o₂} {q₂ = q₂} 
     )
 
 -- ---- the count that is kept
-count_in_lem : (answer : Answer Item) → count_in (divided_in answer) ≡ count answer
-count_in_lem (Done n l) = refl
-count_in_lem (TooMany n) = refl
-count_in_lem (NoSpace n) = refl
+count_told : (answer : Answer Item) → count_in (divided_in answer) ≡ count answer
+count_told (Done n l) = refl
+count_told (TooMany n) = refl
+count_told (NoSpace n) = refl
 
 pub count_so : (answer : Answer Item) {said : Divided} {n : ℕ} → said ≡ divided_in answer → n ≡ count_in said → n ≡ count answer
-count_so answer e f = f ∙ ap count_in e ∙ count_in_lem answer
+count_so answer e f = f ∙ ap count_in e ∙ count_told answer

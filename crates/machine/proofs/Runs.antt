@@ -5,15 +5,15 @@ use mathlib.Core.Path.{◌≡◌, refl, ap, ◌∙◌}
 use mathlib.Core.List.{List}
 use lib.ListN.{length}
 use lib.Ieee.{Float}
+use Rattle.std.specs.Prelude.{Err, Ok}
 use Rattle.halving.specs.Halving.{Done}
 use Rattle.halving.proofs.Machine.{start_anywhere, finish}
 use Rattle.chain.specs.declared.Prepared.{Prepared}
-use Rattle.turn.specs.Turning.{Runs, turn, poses_after, joints_after}
+use Rattle.turn.specs.declared.Stop.{Stop}
+use Rattle.turn.specs.Turning.{Runs, turn, poses_after, joints_after, Turn}
 use Rattle.machine.specs.Dividing.{Ready, held, halved_from, Ran}
 use Rattle.turn.specs.declared.Machine.{Machine}
 use Rattle.middle.specs.declared.Tolerances.{Tolerances}
-use Rattle.turn.specs.declared.Turn.{Turn}
-use Rattle.turn.specs.declared.Turn.TheVariants.{On, TooMany, NoSpace}
 use Rattle.turn.proofs.Stored.{items_length, items_take}
 use Rattle.turn.proofs.Running.{Here, Turned, work, turned}
 
@@ -42,7 +42,7 @@ module _ (p : Prepared) (tol : Tolerances) (space : ℕ) (poses₀ joints₀ : L
         let s = g.here.state in
         ((s.some_placed, s.apart), ((h, g.here.cached.fewer), (s.few, (g.here.poses_long, g.here.joints_long))))
 
-    pub going_end : space ≤ m.waiting → Ran (halved_from p tol space m₀ poses₀ joints₀) space poses joints (On m)
+    pub going_end : space ≤ m.waiting → Ran (halved_from p tol space m₀ poses₀ joints₀) space poses joints (Ok m)
     unfolding halved_from
     going_end h =
         let s = g.here.state in
@@ -54,18 +54,15 @@ module _ (p : Prepared) (tol : Tolerances) (space : ℕ) (poses₀ joints₀ : L
       came : Turned p tol space (held space m₀ poses₀ joints₀) m₀.inserted m poses' joints' r
       came = rw (is, is-poses, is-joints) (turned p tol space (held space m₀ poses₀ joints₀) m₀.inserted g.here more)
 
-      pub going_on : {next : Machine} → r ≡ On next → length poses' ≡ length poses → length joints' ≡ length joints → Going poses' joints' next
+      pub going_on : {next : Machine} → r ≡ Ok next → length poses' ≡ length poses → length joints' ≡ length joints → Going poses' joints' next
       going_on e a b =
           let c = rw e at came in
           record { here = c.0; poses_kept = a ∙ g.poses_kept; joints_kept = b ∙ g.joints_kept }
 
-      pub going_less : {next : Machine} → r ≡ On next → work p tol space (held space m₀ poses₀ joints₀) m₀.inserted next < work p tol space (held space m₀ poses₀ joints₀) m₀.inserted m
+      pub going_less : {next : Machine} → r ≡ Ok next → work p tol space (held space m₀ poses₀ joints₀) m₀.inserted next < work p tol space (held space m₀ poses₀ joints₀) m₀.inserted m
       going_less e = let c = rw e at came in c.1
 
-      pub going_many : {n : ℕ} → r ≡ TooMany n → Ran (halved_from p tol space m₀ poses₀ joints₀) space poses' joints' r
+      pub going_stopped : (s : Stop) → r ≡ Err s → Ran (halved_from p tol space m₀ poses₀ joints₀) space poses' joints' r
       unfolding halved_from
-      going_many e = rw e (record { so = rw e at came })
-
-      pub going_full : {n : ℕ} → r ≡ NoSpace n → Ran (halved_from p tol space m₀ poses₀ joints₀) space poses' joints' r
-      unfolding halved_from
-      going_full e = rw e (record { so = rw e at came })
+      going_stopped (Stop.TooMany n) e = rw e (record { so = rw e at came })
+      going_stopped (Stop.NoSpace n) e = rw e (record { so = rw e at came })

@@ -1,5 +1,5 @@
 -- The division of a path: document 01's halving of its items, and what it leaves in the two lent outputs. What the machine is ready for is said here too.
-use Rattle.std.specs.Prelude.{ℕ, ◌-◌, ◌*◌, ◌≤◌, ◌<◌, ◌≡◌, List, ◌++◌, map, length, take, drop, replicate, Float}
+use Rattle.std.specs.Prelude.{ℕ, ◌-◌, ◌*◌, ◌≤◌, ◌<◌, ◌≡◌, List, ◌++◌, map, length, take, drop, replicate, Float, Err, Ok, Result}
 use Rattle.std.proofs.Math.Option.{none}
 use Rattle.float.specs.Helpers.{nought}
 use Rattle.lists.specs.Padding.{padded}
@@ -8,15 +8,13 @@ use Rattle.halving.specs.Halving.{Answer, Done, step, halve}
 use Rattle.halving.specs.Halving as Halving
 use Rattle.chain.specs.declared.Prepared.{Prepared}
 use Rattle.path.specs.Solving.{joint_numbers}
+use Rattle.turn.specs.declared.Stop.{Stop}
 use Rattle.turn.specs.Items.{pose_numbers, items_in}
 use Rattle.middle.specs.Testing.{midpoint, divides}
-use Rattle.turn.specs.Turning.{most, Cached}
-use Rattle.machine.specs.declared.Divided.{Divided}
+use Rattle.turn.specs.Turning.{most, Cached, Turn}
 use Rattle.middle.specs.declared.Item.{Item}
 use Rattle.turn.specs.declared.Machine.{Machine}
 use Rattle.middle.specs.declared.Tolerances.{Tolerances}
-use Rattle.turn.specs.declared.Turn.{Turn}
-use Rattle.turn.specs.declared.Turn.TheVariants.{On, TooMany, NoSpace}
 
 -- ---- the division, and what it leaves
 -- with `had` inserted before, which count
@@ -26,10 +24,14 @@ division_after had p tol space given = halve (divides p tol) (midpoint p) space 
 unfoldable pub division : Prepared → Tolerances → ℕ → List Item → Answer Item
 division p tol space given = halve (divides p tol) (midpoint p) space most 0 given
 
+-- how a division ends: with the number inserted, or before its time
+abbrev pub Divided : Type 0
+Divided = Result ℕ Stop
+
 abbrev pub divided_in : Answer Item → Divided
-divided_in (Done n l) = Divided.Done n
-divided_in (Halving.TooMany n) = Divided.TooMany n
-divided_in (Halving.NoSpace n) = Divided.NoSpace n
+divided_in (Done n l) = Ok n
+divided_in (Halving.TooMany n) = Err (Stop.TooMany n)
+divided_in (Halving.NoSpace n) = Err (Stop.NoSpace n)
 
 -- the poses, then +0.0; all +0.0 where it is refused
 abbrev pub poses_over : Answer Item → List Float → List Float
@@ -65,20 +67,18 @@ halved_from p tol space m poses joints = halve (divides p tol) (midpoint p) spac
 
 -- the machine stopped as that says: all is placed at the front of the outputs, or it refused
 abbrev pub RanTo : Answer Item → ℕ → List Float → List Float → Turn → Type 0
-RanTo answer space poses joints (On last) = (answer ≡ Done last.inserted (items_in last.placed poses joints)) × (last.placed ≤ space)
-RanTo answer space poses joints (TooMany n) = answer ≡ Halving.TooMany n
-RanTo answer space poses joints (NoSpace n) = answer ≡ Halving.NoSpace n
+RanTo answer space poses joints (Ok last) = (answer ≡ Done last.inserted (items_in last.placed poses joints)) × (last.placed ≤ space)
+RanTo answer space poses joints (Err (Stop.TooMany n)) = answer ≡ Halving.TooMany n
+RanTo answer space poses joints (Err (Stop.NoSpace n)) = answer ≡ Halving.NoSpace n
 
 pub record Ran (answer : Answer Item) (space : ℕ) (poses joints : List Float) (r : Turn) : Type 0 where
   pub so : RanTo answer space poses joints r
 
 -- how many items stay, and the answer
 abbrev pub staying : Turn → ℕ
-staying (On last) = last.placed
-staying (TooMany n) = 0
-staying (NoSpace n) = 0
+staying (Ok last) = last.placed
+staying (Err s) = 0
 
 abbrev pub answer_in : Turn → Divided
-answer_in (On last) = Divided.Done last.inserted
-answer_in (TooMany n) = Divided.TooMany n
-answer_in (NoSpace n) = Divided.NoSpace n
+answer_in (Ok last) = Ok last.inserted
+answer_in (Err s) = Err s

@@ -1,11 +1,11 @@
 -- One pair divided after insertions elsewhere: what Subdiv::fill of the Rust does, with the record of count and tolerances that it is lent.
-use Rattle.std.specs.Prelude.{ℕ, cond, List, [], ◌∷◌, leb, ltb, length, Float}
+use Rattle.std.specs.Prelude.{ℕ, cond, List, [], ◌∷◌, leb, ltb, length, Float, Err, Ok}
 use Rattle.halving.specs.Halving.{Answer, NoSpace, count}
 use Rattle.chain.specs.declared.Prepared.{Prepared}
+use Rattle.turn.specs.declared.Stop.{Stop}
 use Rattle.turn.specs.Turning.{most}
-use Rattle.machine.specs.Dividing.{division_after}
+use Rattle.machine.specs.Dividing.{division_after, Divided}
 use Rattle.turn.specs.Items.{space_in}
-use Rattle.machine.specs.declared.Divided.{Divided}
 use Rattle.middle.specs.declared.Item.{Item}
 use Rattle.machine.specs.declared.Subdiv.{Subdiv}
 use Rattle.middle.specs.declared.Tolerances.{Tolerances}
@@ -25,18 +25,18 @@ unfoldable pub counted : ℕ → ℕ
 counted had = cond (leb had most) had most
 
 abbrev pub with_count : ℕ → Divided → Divided
-with_count had (Divided.Done n) = Divided.Done had
-with_count had (Divided.TooMany n) = Divided.TooMany had
-with_count had (Divided.NoSpace n) = Divided.NoSpace had
+with_count had (Ok n) = Ok had
+with_count had (Err (Stop.TooMany n)) = Err (Stop.TooMany had)
+with_count had (Err (Stop.NoSpace n)) = Err (Stop.NoSpace had)
 
 unfoldable pub recounted : ℕ → Divided → Divided
 recounted had said = cond (leb had most) said (with_count had said)
 
 -- ---- the lent record: the count is kept, on refusals the count so far, and the tolerances stay
 abbrev pub count_in : Divided → ℕ
-count_in (Divided.Done n) = n
-count_in (Divided.TooMany n) = n
-count_in (Divided.NoSpace n) = n
+count_in (Ok n) = n
+count_in (Err (Stop.TooMany n)) = n
+count_in (Err (Stop.NoSpace n)) = n
 
 abbrev pub filling : Subdiv → Prepared → Item → Item → List Float → List Float → Answer Item
 filling job p left right poses joints = filled p job.inserted job.chord job.axis left right poses joints

@@ -1,4 +1,5 @@
-// The division of a path in two lent outputs, at the front of which its items stand: all but the first are brought to the end, the machine runs, and what it leaves behind is cleared.
+// The division of a path in two lent outputs, at the front of which its items stand: all but the first are brought to
+// the end, the machine runs, and what it leaves behind is cleared.
 ghost use Rattle.std.specs.Prelude.{◌+◌, ◌-◌, ◌*◌, ◌≤◌, ◌<◌, ◌≡◌, ◌++◌, length, take, drop};
 ghost use Rattle.float.specs.Helpers.{nought};
 ghost use Rattle.lists.specs.Padding.{padded};
@@ -6,23 +7,10 @@ ghost use Rattle.turn.specs.Items.{items_in};
 ghost use Rattle.turn.specs.Turning.{axis_at, end_at_start, begun};
 ghost use Rattle.machine.specs.Dividing as S;
 
-use crate::Divided;
 use chain::Prepared;
 use geometry::Vec3;
 use middle::Tolerances;
-use turn::{Machine, Turn, advance, axis_at, item_at, put_item};
-
-// Copies numbers to the front of an output.
-fn copy_front(from: &[f64], to: &mut [f64])
-    requires { length from.now ≤ length to.old }
-    ensures { to.new ≡ from.now ++ drop (length from.now) to.old }
-{
-    let mut i = 0;
-    while i < from.len() {
-        to[i] = from[i];
-        i += 1;
-    }
-}
+use turn::{GivenPath, Machine, Stop, axis_at, item_at, put_item};
 
 // Brings all items but the first from the front to the end of `space`, the last one first.
 fn bring(space: usize, count: usize, poses: &mut [f64], joints: &mut [f64])
@@ -30,9 +18,7 @@ fn bring(space: usize, count: usize, poses: &mut [f64], joints: &mut [f64])
     ensures first { take 1 (items_in space poses.new joints.new) ≡ take 1 (items_in count poses.old joints.old) }
     ensures rest { drop (space - count + 1) (items_in space poses.new joints.new) ≡ drop 1 (items_in count poses.old joints.old) }
 {
-    let mut j = count;
-    while 1 < j {
-        j -= 1;
+    for j in (1..count).rev() {
         let t = item_at(poses, joints, j);
         put_item(t, poses, joints, space - count + j);
     }
@@ -73,44 +59,35 @@ pub fn run(
     m: Machine,
     poses: &mut [f64],
     joints: &mut [f64],
-) -> Turn
+) -> Result<Machine, Stop>
     requires { S.Ready p tol space m poses.old joints.old }
     ensures { S.Ran (S.halved_from p tol space m poses.old joints.old) space poses.new joints.new result }
 {
     let mut state = m;
+    // Until nothing waits: how many turns that takes is not known before.
     while state.waiting < space {
-        let turn = advance(p, tol, space, state, poses, joints);
-        match turn {
-            Turn::On(next) => state = next,
-            Turn::TooMany(_) => return turn,
-            Turn::NoSpace(_) => return turn,
-        }
+        state = state.advance(p, tol, space, poses, joints)?;
     }
-    Turn::On(state)
+    Ok(state)
 }
 
-fn staying(turn: Turn) -> usize
+fn staying(turn: Result<Machine, Stop>) -> usize
     ensures { result ≡ S.staying turn }
 {
     match turn {
-        Turn::On(last) => last.placed,
-        Turn::TooMany(_) => 0,
-        Turn::NoSpace(_) => 0,
+        Ok(last) => last.placed,
+        Err(_) => 0,
     }
 }
 
-fn answer_in(turn: Turn) -> Divided
+fn answer_in(turn: Result<Machine, Stop>) -> Result<u64, Stop>
     ensures { result ≡ S.answer_in turn }
 {
-    match turn {
-        Turn::On(last) => Divided::Done(last.inserted),
-        Turn::TooMany(n) => Divided::TooMany(n),
-        Turn::NoSpace(n) => Divided::NoSpace(n),
-    }
+    Ok(turn?.inserted)
 }
 
 // What is not placed is +0.0; after a refusal, everything.
-fn close(turn: Turn, poses: &mut [f64], joints: &mut [f64]) -> Divided
+fn close(turn: Result<Machine, Stop>, poses: &mut [f64], joints: &mut [f64]) -> Result<u64, Stop>
     requires { (S.staying turn * 6 ≤ length poses.old) × (S.staying turn * 5 ≤ length joints.old) }
     ensures answer { result ≡ S.answer_in turn }
     ensures poses { poses.new ≡ padded (length poses.old) nought (take (S.staying turn * 6) poses.old) }
@@ -131,7 +108,7 @@ pub fn divide_after(
     had: u64,
     poses: &mut [f64],
     joints: &mut [f64],
-) -> Divided
+) -> Result<u64, Stop>
     requires { (had ≤ 10000) × (((0 < count) × (count ≤ space)) × ((space * 6 ≤ length poses.old) × (space * 5 ≤ length joints.old))) }
     ensures answer { result ≡ S.divided_in (S.division_after had p tol space (items_in count poses.old joints.old)) }
     ensures poses { poses.new ≡ S.poses_over (S.division_after had p tol space (items_in count poses.old joints.old)) poses.old }
@@ -151,7 +128,7 @@ pub fn divide_items(
     count: usize,
     poses: &mut [f64],
     joints: &mut [f64],
-) -> Divided
+) -> Result<u64, Stop>
     requires { ((0 < count) × (count ≤ space)) × ((space * 6 ≤ length poses.old) × (space * 5 ≤ length joints.old)) }
     ensures answer { result ≡ S.divided_in (S.division p tol space (items_in count poses.old joints.old)) }
     ensures poses { poses.new ≡ S.poses_over (S.division p tol space (items_in count poses.old joints.old)) poses.old }
@@ -169,13 +146,13 @@ pub fn divide_solved(
     given: &[f64],
     poses: &mut [f64],
     joints: &mut [f64],
-) -> Divided
+) -> Result<u64, Stop>
     requires { (length given.now ≡ count * 6) × (((0 < count) × (count ≤ space)) × ((space * 6 ≤ length poses.old) × (space * 5 ≤ length joints.old))) }
     ensures answer { result ≡ S.divided_in (S.division p tol space (items_in count given.now joints.old)) }
     ensures poses { poses.new ≡ S.poses_over (S.division p tol space (items_in count given.now joints.old)) poses.old }
     ensures joints { joints.new ≡ S.joints_over (S.division p tol space (items_in count given.now joints.old)) joints.old }
 {
-    copy_front(given, poses);
+    poses[..given.len()].copy_from_slice(given);
     divide_items(p, tol, space, count, poses, joints)
 }
 
@@ -184,17 +161,15 @@ pub fn divide_given(
     p: Prepared,
     tol: Tolerances,
     space: usize,
-    count: usize,
-    given: &[f64],
-    solved: &[f64],
+    given: &GivenPath,
     poses: &mut [f64],
     joints: &mut [f64],
-) -> Divided
-    requires { ((length given.now ≡ count * 6) × (length solved.now ≡ count * 5)) × (((0 < count) × (count ≤ space)) × ((space * 6 ≤ length poses.old) × (space * 5 ≤ length joints.old))) }
-    ensures answer { result ≡ S.divided_in (S.division p tol space (items_in count given.now solved.now)) }
-    ensures poses { poses.new ≡ S.poses_over (S.division p tol space (items_in count given.now solved.now)) poses.old }
-    ensures joints { joints.new ≡ S.joints_over (S.division p tol space (items_in count given.now solved.now)) joints.old }
+) -> Result<u64, Stop>
+    requires { ((0 < given.now.count) × (given.now.count ≤ space)) × ((space * 6 ≤ length poses.old) × (space * 5 ≤ length joints.old)) }
+    ensures answer { result ≡ S.divided_in (S.division p tol space (items_in given.now.count given.now.poses.now given.now.joints.now)) }
+    ensures poses { poses.new ≡ S.poses_over (S.division p tol space (items_in given.now.count given.now.poses.now given.now.joints.now)) poses.old }
+    ensures joints { joints.new ≡ S.joints_over (S.division p tol space (items_in given.now.count given.now.poses.now given.now.joints.now)) joints.old }
 {
-    copy_front(solved, joints);
-    divide_solved(p, tol, space, count, given, poses, joints)
+    joints[..given.joints.len()].copy_from_slice(given.joints);
+    divide_solved(p, tol, space, given.count, given.poses, poses, joints)
 }

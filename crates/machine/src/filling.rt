@@ -1,14 +1,16 @@
-// One pair divided, as Subdiv::fill of the Rust does it: the poses that were inserted before count, and the two outputs hold this pair alone.
-ghost use Rattle.std.specs.Prelude.{◌*◌, ◌≤◌, ◌≡◌, length, replicate};
+// One pair divided, as Subdiv::fill of the Rust does it: the poses that were inserted before count, and the two outputs
+// hold this pair alone.
+ghost use Rattle.std.specs.Prelude.{◌*◌, ◌≤◌, ◌≡◌, Err, length, replicate};
+ghost use Rattle.turn.specs.declared.Stop.{Stop};
 ghost use Rattle.float.specs.Helpers.{nought};
 ghost use Rattle.machine.specs.Dividing.{divided_in, poses_over, joints_over};
 ghost use Rattle.machine.specs.Filling as S;
 
+use crate::Subdiv;
 use crate::dividing::divide_after;
-use crate::{Divided, Subdiv};
 use chain::Prepared;
 use middle::{Item, Tolerances};
-use turn::{MOST, put_item, space_in};
+use turn::{MOST, Stop, put_item, space_in};
 
 // Where the machine's count starts: it knows none past 10,000.
 fn counted(had: u64) -> u64
@@ -21,28 +23,29 @@ fn counted(had: u64) -> u64
 }
 
 // Past 10,000 nothing is inserted, and the count stays what it was.
-fn recounted(had: u64, said: Divided) -> Divided
+#[tactic(auto, unfolding(crate::specs::Filling::recounted))]
+fn recounted(had: u64, said: Result<u64, Stop>) -> Result<u64, Stop>
     ensures { result ≡ S.recounted had said }
 {
     if had <= MOST {
         return said;
     }
     match said {
-        Divided::Done(_) => Divided::Done(had),
-        Divided::TooMany(_) => Divided::TooMany(had),
-        Divided::NoSpace(_) => Divided::NoSpace(had),
+        Ok(_) => Ok(had),
+        Err(Stop::TooMany(_)) => Err(Stop::TooMany(had)),
+        Err(Stop::NoSpace(_)) => Err(Stop::NoSpace(had)),
     }
 }
 
 // No space for the pair itself.
-fn without_space(had: u64, poses: &mut [f64], joints: &mut [f64]) -> Divided
-    ensures answer { result ≡ Divided.NoSpace had }
+fn without_space(had: u64, poses: &mut [f64], joints: &mut [f64]) -> Result<u64, Stop>
+    ensures answer { result ≡ Err (Stop.NoSpace had) }
     ensures poses { poses.new ≡ replicate (length poses.old) nought }
     ensures joints { joints.new ≡ replicate (length joints.old) nought }
 {
-    path::clear_from(poses, 0);
-    path::clear_from(joints, 0);
-    Divided::NoSpace(had)
+    poses.fill(0.0);
+    joints.fill(0.0);
+    Err(Stop::NoSpace(had))
 }
 
 // The pair divided in a space for so many.
@@ -55,7 +58,7 @@ fn fill_space(
     right: Item,
     poses: &mut [f64],
     joints: &mut [f64],
-) -> Divided
+) -> Result<u64, Stop>
     requires { (2 ≤ space) × ((space * 6 ≤ length poses.old) × (space * 5 ≤ length joints.old)) }
     ensures answer { result ≡ divided_in (S.pair_halved p tol space had left right) }
     ensures poses { poses.new ≡ poses_over (S.pair_halved p tol space had left right) poses.old }
@@ -67,7 +70,8 @@ fn fill_space(
     recounted(had, said)
 }
 
-// The pair divided, after `had` insertions elsewhere: where 10,000 or more were inserted before, a pair that needs no more is done, and any other is refused.
+// The pair divided, after `had` insertions elsewhere: where 10,000 or more were inserted before, a pair that needs no
+// more is done, and any other is refused.
 pub fn fill_pair(
     p: Prepared,
     had: u64,
@@ -77,7 +81,7 @@ pub fn fill_pair(
     right: Item,
     poses: &mut [f64],
     joints: &mut [f64],
-) -> Divided
+) -> Result<u64, Stop>
     ensures answer { result ≡ divided_in (S.filled p had chord axis left right poses.old joints.old) }
     ensures poses { poses.new ≡ poses_over (S.filled p had chord axis left right poses.old joints.old) poses.old }
     ensures joints { joints.new ≡ joints_over (S.filled p had chord axis left right poses.old joints.old) joints.old }
@@ -90,13 +94,11 @@ pub fn fill_pair(
     fill_space(p, tol, space, had, left, right, poses, joints)
 }
 
-fn count_in(said: Divided) -> u64
+fn count_in(said: Result<u64, Stop>) -> u64
     ensures { result ≡ S.count_in said }
 {
     match said {
-        Divided::Done(n) => n,
-        Divided::TooMany(n) => n,
-        Divided::NoSpace(n) => n,
+        Ok(n) | Err(Stop::TooMany(n) | Stop::NoSpace(n)) => n,
     }
 }
 
@@ -108,7 +110,7 @@ pub fn fill(
     right: Item,
     poses: &mut [f64],
     joints: &mut [f64],
-) -> Divided
+) -> Result<u64, Stop>
     ensures answer { result ≡ divided_in (S.filling job.old p left right poses.old joints.old) }
     ensures job { job.new ≡ S.after job.old (S.filling job.old p left right poses.old joints.old) }
     ensures poses { poses.new ≡ poses_over (S.filling job.old p left right poses.old joints.old) poses.old }

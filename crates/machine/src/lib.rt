@@ -1,5 +1,7 @@
-// The machine that halves a path in two lent outputs, turn after turn (crate turn), until no two neighbours divide; and one pair divided by it, after others. It is document 01's halving (crate halving) over the test and the midpoint of
-// crate middle. Below the calls that check what they are lent, so that a wrong machine is refused without the price list's proofs.
+// The machine that halves a path in two lent outputs, turn after turn (crate turn), until no two neighbours divide; and
+// one pair divided by it, after others. It is document 01's halving (crate halving) over the test and the midpoint of
+// crate middle. Below the calls that check what they are lent, so that a wrong machine is refused without the price
+// list's proofs.
 #![tactic(auto)]
 
 mod dividing;
@@ -7,14 +9,6 @@ mod filling;
 
 pub use dividing::{divide_given, divide_solved};
 pub use filling::{fill, fill_pair};
-
-// How a division ended, with the number of poses inserted: all done, one too many (27), or without space (28).
-#[derive(Clone, Copy)]
-pub enum Divided {
-    Done(u64),
-    TooMany(u64),
-    NoSpace(u64),
-}
 
 // What the pairs of one path share: the poses inserted so far, and the tolerances (Subdiv of the Rust).
 #[derive(Clone, Copy)]

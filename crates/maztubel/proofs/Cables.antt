@@ -6,10 +6,12 @@ use mathlib.Core.List.{List}
 use lib.Dec.{eqb}
 use lib.Ieee.{Float}
 use lib.ListN.{length}
-use Rattle.refusal.specs.Numbers.{refusal, lengths_differ}
-use Rattle.chain.specs.declared.ChainRead.{ChainRead}
+use Rattle.std.specs.Prelude.{Err, Ok, Result}
+use Rattle.refusal.specs.declared.Refusal.{Refusal}
+use Rattle.refusal.specs.Numbers.{refusal}
+use Rattle.refusal.specs.declared.Cause.{Cause}
+use Rattle.chain.specs.declared.Kinematics.{Kinematics}
 use Rattle.chain.specs.ChainBytes.{read_chain}
-use Rattle.job.specs.declared.Cable.{Cable}
 use Rattle.job.specs.Cable.{cable_number}
 use Rattle.job.proofs.CableLaws.{cable_largest}
 use Rattle.maztubel.specs.JobEntries.{cable_read, cable_of, CablePromise}
@@ -18,12 +20,12 @@ pub cable_promised : (chain : List ℕ) (joints : List Float) (rotary : ℕ) →
 unfolding cable_of
 cable_promised chain joints rotary = by_read (eqb (length joints % 5) 0) (read_chain chain)
   where
-    by_read : (whole : Bool) (read : ChainRead) → CablePromise read joints rotary (cond (not whole) (Cable.Refused (refusal lengths_differ 0)) (cable_read read joints rotary))
-    by_read false (ChainRead.Refused r) = tt
-    by_read false (ChainRead.Chain k) = tt
-    by_read true (ChainRead.Refused r) = tt
-    by_read true (ChainRead.Chain k) = by_answer (cable_number k joints rotary) refl
+    by_read : (whole : Bool) (read : Result Kinematics Refusal) → CablePromise read joints rotary (cond (not whole) (Err (refusal Cause.LengthsDiffer 0)) (cable_read read joints rotary))
+    by_read false (Err r) = tt
+    by_read false (Ok k) = tt
+    by_read true (Err r) = tt
+    by_read true (Ok k) = by_answer (cable_number k joints rotary) refl
       where
-        by_answer : (a : Cable) → cable_number k joints rotary ≡ a → CablePromise (ChainRead.Chain k) joints rotary a
-        by_answer (Cable.Refused r) e = tt
-        by_answer (Cable.Turns n) e = cable_largest k joints rotary n e
+        by_answer : (a : Result ℕ Refusal) → cable_number k joints rotary ≡ a → CablePromise (Ok k) joints rotary a
+        by_answer (Err r) e = tt
+        by_answer (Ok n) e = cable_largest k joints rotary n e

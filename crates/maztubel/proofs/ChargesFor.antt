@@ -8,39 +8,41 @@ use borrow.Author.Tests.{ltb-true, ltb-false, leb-true, leb-false, eqb-false}
 use lib.Dec.{eqb, leb, ltb}
 use lib.Ieee.{Float}
 use lib.ListN.{length}
+use Rattle.std.specs.Prelude.{Err, Ok, Result}
 use Rattle.refusal.specs.declared.Refusal.{Refusal}
 use Rattle.refusal.specs.Numbers as Numbers
-use Rattle.chain.specs.declared.ChainRead.{ChainRead}
-use Rattle.chain.specs.declared.Checked.{Checked}
+use Rattle.refusal.specs.Numbers.{number_of}
+use Rattle.refusal.specs.declared.Cause.{Cause}
+use Rattle.chain.specs.declared.Kinematics.{Kinematics}
+use Rattle.chain.specs.Checked.{Checked}
 use Rattle.chain.specs.ChainBytes.{read_chain}
 use Rattle.chain.specs.Check.{demand, then}
 use Rattle.halving.specs.Halving as Halving
 use Rattle.middle.specs.declared.Tolerances.{Tolerances}
-use Rattle.divide.specs.declared.Division.{Division}
-use Rattle.divide.specs.declared.Division.TheVariants.{Refused}
-use Rattle.divide.specs.Subdividing.{DivisionAnswer, Kept, AtPose, Cleared, Halved, division_in, poses_left, joints_left, unless_kept}
+use Rattle.divide.specs.declared.DivisionError.{DivisionError}
+use Rattle.divide.specs.Subdividing.{DivisionAnswer, Kept, AtPose, Cleared, Halved, division_in, poses_left, joints_left, unless_kept, Division}
 use Rattle.quota.specs.Quota.{shops, balance_of, shop_check, charge, settled, charged_division}
 use Rattle.quota.specs.Calls.{Divide, after}
 use Rattle.quota.specs.QuotaSteps.{settled_said, settled_over, settled_balances}
 use Rattle.divide.proofs.PriceLent.{is_ended}
 use Rattle.quota.proofs.Checks.{shop_known}
-use Rattle.quota.proofs.Settling.{kept_answer, kept_poses, kept_joints, kept_balances, settled_answer, settled_poses, settled_joints, settled_balances_lem, shop_promise, settled_promise}
+use Rattle.quota.proofs.Settling.{kept_answer, kept_poses, kept_joints, kept_balances, settled_answer, settled_poses, settled_joints, settled_balances_after, shop_promise, settled_promise}
 use Rattle.maztubel.specs.DivideEntries.{division_number, subdivide_of, SubdividePromise, Says}
 use Rattle.maztubel.specs.QuotaEntries.{ChargedPromise, ChargedSays}
-use Rattle.maztubel.proofs.Causes.{AnswerCause, other, Cause, unlike, says}
+use Rattle.maztubel.proofs.Causes.{AnswerCause, other, Plain, unlike, says}
 
 -- ---- the promise
 module _ (b : List ℕ) (shop : ℕ) (plain : DivisionAnswer) (tol : Tolerances) (lent solved : List Float) (roomPoses roomJoints : ℕ) where
-  pub unknown_promise : (read : ChainRead) (poses joints : List Float) {s r : Refusal} {answer : Division} → shop_check (length b) shop ≡ Checked.Refused s → answer ≡ Refused r
+  pub unknown_promise : (read : Result Kinematics Refusal) (poses joints : List Float) {s r : Refusal} {answer : Division} → shop_check (length b) shop ≡ Err s → answer ≡ Err (DivisionError.Refused r)
       → ChargedPromise read b shop plain tol lent solved roomPoses roomJoints answer poses joints
-  unknown_promise (ChainRead.Refused t) poses joints e f = tt
-  unknown_promise (ChainRead.Chain k) poses joints e f = shop_promise b shop plain k tol lent solved roomPoses roomJoints e f
+  unknown_promise (Err t) poses joints e f = tt
+  unknown_promise (Ok k) poses joints e f = shop_promise b shop plain k tol lent solved roomPoses roomJoints e f
 
-  pub charged_promise : (read : ChainRead) (p j : List Float) → shop_check (length b) shop ≡ Checked.Passed → {said answer : Division} {poses joints : List Float} → said ≡ division_in plain
+  pub charged_promise : (read : Result Kinematics Refusal) (p j : List Float) → shop_check (length b) shop ≡ Ok tt → {said answer : Division} {poses joints : List Float} → said ≡ division_in plain
       → SubdividePromise read tol lent solved roomPoses roomJoints said p j → answer ≡ settled_said (balance_of b shop) said → poses ≡ settled_over (balance_of b shop) said p
       → joints ≡ settled_over (balance_of b shop) said j → ChargedPromise read b shop plain tol lent solved roomPoses roomJoints answer poses joints
-  charged_promise (ChainRead.Refused t) p j known same promise e f g = tt
-  charged_promise (ChainRead.Chain k) p j known same promise e f g =
+  charged_promise (Err t) p j known same promise e f g = tt
+  charged_promise (Ok k) p j known same promise e f g =
       settled_promise b shop plain k tol lent solved roomPoses roomJoints known same promise.0 promise.1 e f g
 
 -- ---- the whole of it, in its two ways out
@@ -56,7 +58,7 @@ module _ (b : List ℕ) (shop : ℕ) (chain : List ℕ) (tol : Tolerances) (lent
       × ((left ≡ after b (Divide shop whole))
       × ChargedPromise (read_chain chain) b shop whole tol lent solved (length p₀) (length j₀) (division_in (charged_division b shop whole)) poses joints)))
 
-  pub charged_kept : {r : Refusal} → shop_check (length b) shop ≡ Checked.Refused r → So (Refused r) p₀ j₀ b
+  pub charged_kept : {r : Refusal} → shop_check (length b) shop ≡ Err r → So (Err (DivisionError.Refused r)) p₀ j₀ b
   charged_kept e = (
     kept_answer b shop whole e,
     (
@@ -68,7 +70,7 @@ module _ (b : List ℕ) (shop : ℕ) (chain : List ℕ) (tol : Tolerances) (lent
     ),
   )
 
-  pub charged_settled : {said answer : Division} {p j poses joints : List Float} {left : List ℕ} → shop_check (length b) shop ≡ Checked.Passed → length p ≡ length p₀ → length j ≡ length j₀
+  pub charged_settled : {said answer : Division} {p j poses joints : List Float} {left : List ℕ} → shop_check (length b) shop ≡ Ok tt → length p ≡ length p₀ → length j ≡ length j₀
       → (said ≡ division_in whole)
       × ((p ≡ poses_left whole p₀)
       × ((j ≡ joints_left whole j₀) × SubdividePromise (read_chain chain) tol lent solved (length p₀) (length j₀) (division_in whole) p j))
@@ -86,7 +88,7 @@ module _ (b : List ℕ) (shop : ℕ) (chain : List ℕ) (tol : Tolerances) (lent
           (
             v ∙ settled_joints b shop whole passed j j₀ wide plain.1.1.0,
             (
-              settles.1.1.1 ∙ ap (settled_balances b shop) same ∙ settled_balances_lem b shop whole passed,
+              settles.1.1.1 ∙ ap (settled_balances b shop) same ∙ settled_balances_after b shop whole passed,
               charged_promise b shop whole tol lent solved (length p₀) (length j₀) (read_chain chain) p j passed refl plain.1.1.1 (sym (settled_answer b shop whole passed)) u v,
             ),
           ),
@@ -95,46 +97,46 @@ module _ (b : List ℕ) (shop : ℕ) (chain : List ℕ) (tol : Tolerances) (lent
 
 -- ---- what the number says
 -- a number of the plain division is none of quotas
-not_quota : (r : Refusal) → Cause r → (n : ℕ) → other n ≡ false → r.number ≡ n → ⊥
+not_quota : (r : Refusal) → Plain r → (n : ℕ) → other n ≡ false → number_of r.cause ≡ n → ⊥
 not_quota r h n f e = false≢true (sym f ∙ ap other (sym e) ∙ h)
 
-plain_number : (plain : DivisionAnswer) → AnswerCause plain → (n : ℕ) → other n ≡ false → eqb n Numbers.served ≡ false → eqb n Numbers.too_many_insertions ≡ false → eqb n Numbers.no_space ≡ false
+plain_number : (plain : DivisionAnswer) → AnswerCause plain → (n : ℕ) → other n ≡ false → eqb n Numbers.served ≡ false → eqb n (number_of Cause.TooManyInsertions) ≡ false → eqb n (number_of Cause.NoSpace) ≡ false
     → division_number (division_in plain) ≡ n → ⊥
 plain_number (Kept r) h n o x y z e = not_quota r h n o e
 plain_number (AtPose r) h n o x y z e = not_quota r h n o e
 plain_number (Cleared r) h n o x y z e = not_quota r h n o e
 plain_number (Halved (Halving.Done m l)) h n o x y z e = unlike n Numbers.served x (sym e) refl
-plain_number (Halved (Halving.TooMany m)) h n o x y z e = unlike n Numbers.too_many_insertions y (sym e) refl
-plain_number (Halved (Halving.NoSpace m)) h n o x y z e = unlike n Numbers.no_space z (sym e) refl
+plain_number (Halved (Halving.TooMany m)) h n o x y z e = unlike n (number_of Cause.TooManyInsertions) y (sym e) refl
+plain_number (Halved (Halving.NoSpace m)) h n o x y z e = unlike n (number_of Cause.NoSpace) z (sym e) refl
 
 -- a refusal with a number of its own
-refused_says : (m number : ℕ) → eqb m Numbers.served ≡ false → eqb m Numbers.too_many_insertions ≡ false → number ≡ m → Says number (Refused (Numbers.refusal m 0))
+refused_says : (m : Cause) (number : ℕ) → eqb (number_of m) Numbers.served ≡ false → eqb (number_of m) (number_of Cause.TooManyInsertions) ≡ false → number ≡ number_of m → Says number (Err (DivisionError.Refused (Numbers.refusal m 0)))
 refused_says m number x y e = record {
-  done = (λ f. absurd (unlike m Numbers.served x (sym e ∙ f) refl), λ w. absurd (false≢true (ap is_ended w.1)));
-  many = (λ f. absurd (unlike m Numbers.too_many_insertions y (sym e ∙ f) refl), λ w. absurd (false≢true (ap is_ended w.1)));
+  done = (λ f. absurd (unlike (number_of m) Numbers.served x (sym e ∙ f) refl), λ w. absurd (false≢true (ap is_ended w.1)));
+  many = (λ f. absurd (unlike (number_of m) (number_of Cause.TooManyInsertions) y (sym e ∙ f) refl), λ w. absurd (false≢true (ap is_ended w.1)));
 }
 
 module _ (b : List ℕ) (shop : ℕ) (plain : DivisionAnswer) (cause : AnswerCause plain) (number : ℕ) where
-  unknown_says : shops ≤ shop → number ≡ Numbers.unknown_shop → ChargedSays number b shop plain (Refused (Numbers.refusal Numbers.unknown_shop 0))
+  unknown_says : shops ≤ shop → number ≡ number_of Cause.UnknownShop → ChargedSays number b shop plain (Err (DivisionError.Refused (Numbers.refusal Cause.UnknownShop 0)))
   unknown_says h e = record {
-    as_plain = refused_says Numbers.unknown_shop number refl refl e;
+    as_plain = refused_says Cause.UnknownShop number refl refl e;
     unknown = (λ f. h, λ f. e);
     short = (
-      λ f. absurd (unlike Numbers.unknown_shop Numbers.balance_short refl (sym e ∙ f) refl),
+      λ f. absurd (unlike (number_of Cause.UnknownShop) (number_of Cause.BalanceShort) refl (sym e ∙ f) refl),
       λ w.
           let k = (shop_known (length b) shop w.0).0 in
           absurd (omega (arith, k, h)),
     );
   }
 
-  lengths_says : shop < shops → (length b ≡ shops → ⊥) → number ≡ Numbers.lengths_differ → ChargedSays number b shop plain (Refused (Numbers.refusal Numbers.lengths_differ 0))
+  lengths_says : shop < shops → (length b ≡ shops → ⊥) → number ≡ number_of Cause.LengthsDiffer → ChargedSays number b shop plain (Err (DivisionError.Refused (Numbers.refusal Cause.LengthsDiffer 0)))
   lengths_says h n e = record {
-    as_plain = refused_says Numbers.lengths_differ number refl refl e;
-    unknown = (λ f. absurd (unlike Numbers.lengths_differ Numbers.unknown_shop refl (sym e ∙ f) refl), λ f. absurd (omega (arith, f, h)));
-    short = (λ f. absurd (unlike Numbers.lengths_differ Numbers.balance_short refl (sym e ∙ f) refl), λ w. absurd (n (shop_known (length b) shop w.0).1));
+    as_plain = refused_says Cause.LengthsDiffer number refl refl e;
+    unknown = (λ f. absurd (unlike (number_of Cause.LengthsDiffer) (number_of Cause.UnknownShop) refl (sym e ∙ f) refl), λ f. absurd (omega (arith, f, h)));
+    short = (λ f. absurd (unlike (number_of Cause.LengthsDiffer) (number_of Cause.BalanceShort) refl (sym e ∙ f) refl), λ w. absurd (n (shop_known (length b) shop w.0).1));
   }
 
-  module _ (passed : shop_check (length b) shop ≡ Checked.Passed) where
+  module _ (passed : shop_check (length b) shop ≡ Ok tt) where
     known : shop < shops
     known = (shop_known (length b) shop passed).0
 
@@ -142,24 +144,24 @@ module _ (b : List ℕ) (shop : ℕ) (plain : DivisionAnswer) (cause : AnswerCau
     paid_says h e = record {
       as_plain = says plain cause number e;
       unknown = (
-        λ f. absurd (plain_number plain cause Numbers.unknown_shop refl refl refl refl (sym e ∙ f)),
+        λ f. absurd (plain_number plain cause (number_of Cause.UnknownShop) refl refl refl refl (sym e ∙ f)),
         λ f.
             let k = known in
             absurd (omega (arith, f, k)),
       );
       short = (
-        λ f. absurd (plain_number plain cause Numbers.balance_short refl refl refl refl (sym e ∙ f)),
+        λ f. absurd (plain_number plain cause (number_of Cause.BalanceShort) refl refl refl refl (sym e ∙ f)),
         λ w.
             let l = w.1 in
             absurd (omega (arith, l, h)),
       );
     }
 
-    short_says : balance_of b shop < charge plain → number ≡ Numbers.balance_short → ChargedSays number b shop plain (Refused (Numbers.refusal Numbers.balance_short 0))
+    short_says : balance_of b shop < charge plain → number ≡ number_of Cause.BalanceShort → ChargedSays number b shop plain (Err (DivisionError.Refused (Numbers.refusal Cause.BalanceShort 0)))
     short_says h e = record {
-      as_plain = refused_says Numbers.balance_short number refl refl e;
+      as_plain = refused_says Cause.BalanceShort number refl refl e;
       unknown = (
-        λ f. absurd (unlike Numbers.balance_short Numbers.unknown_shop refl (sym e ∙ f) refl),
+        λ f. absurd (unlike (number_of Cause.BalanceShort) (number_of Cause.UnknownShop) refl (sym e ∙ f) refl),
         λ f.
             let k = known in
             absurd (omega (arith, f, k)),
@@ -168,13 +170,13 @@ module _ (b : List ℕ) (shop : ℕ) (plain : DivisionAnswer) (cause : AnswerCau
     }
 
     settled_says : (t : Bool) → leb (charge plain) (balance_of b shop) ≡ t
-        → number ≡ division_number (division_in (cond t plain (Cleared (Numbers.refusal Numbers.balance_short 0))))
-        → ChargedSays number b shop plain (division_in (cond t plain (Cleared (Numbers.refusal Numbers.balance_short 0))))
+        → number ≡ division_number (division_in (cond t plain (Cleared (Numbers.refusal Cause.BalanceShort 0))))
+        → ChargedSays number b shop plain (division_in (cond t plain (Cleared (Numbers.refusal Cause.BalanceShort 0))))
     settled_says true f e = paid_says (leb-true (charge plain) (balance_of b shop) f) e
     settled_says false f e = short_says (leb-false (charge plain) (balance_of b shop) f) e
 
   abbrev checked : Bool → Bool → Checked
-  checked known counted = then (demand known Numbers.unknown_shop 0) (demand counted Numbers.lengths_differ 0)
+  checked known counted = then (demand known Cause.UnknownShop 0) (demand counted Cause.LengthsDiffer 0)
 
   checked_says : (known counted : Bool) → ltb shop shops ≡ known → eqb (length b) shops ≡ counted → shop_check (length b) shop ≡ checked known counted
       → number ≡ division_number (division_in (unless_kept (checked known counted) (settled (balance_of b shop) plain)))

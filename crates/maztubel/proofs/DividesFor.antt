@@ -6,15 +6,14 @@ use mathlib.Core.List.{List}
 use borrow.Author.Tests.{not-true, not-false}
 use lib.ListN.{length}
 use lib.Ieee.{Float}
+use Rattle.std.specs.Prelude.{Err, Ok, Result}
 use Rattle.refusal.specs.declared.Refusal.{Refusal}
-use Rattle.chain.specs.declared.ChainRead.{ChainRead}
 use Rattle.chain.specs.declared.Kinematics.{Kinematics}
 use Rattle.chain.specs.ChainBytes.{read_chain}
-use Rattle.divide.specs.declared.Division.{Division}
-use Rattle.divide.specs.declared.Division.TheVariants.{Refused}
 use Rattle.middle.specs.declared.Tolerances.{Tolerances}
+use Rattle.divide.specs.declared.DivisionError.{DivisionError}
 use Rattle.divide.specs.Checking.{four_whole}
-use Rattle.divide.specs.Subdividing.{DivisionAnswer, division_in, poses_left, joints_left, subdivide_path, solve_and_divide}
+use Rattle.divide.specs.Subdividing.{DivisionAnswer, division_in, poses_left, joints_left, subdivide_path, solve_and_divide, Division}
 use Rattle.divide.specs.Looser.{Later}
 use Rattle.divide.specs.Price.{IfSolved, SolvedAndDivided}
 use Rattle.divide.proofs.Lengths.{all_pass}
@@ -25,10 +24,10 @@ use Rattle.maztubel.specs.DivideEntries.{lengths_refused, subdivide_of, Subdivid
 
 -- ---- division
 -- records that are not whole are refused by division's own first check, so nothing was begun
-refused_promise : (read : ChainRead) (tol : Tolerances) (lent solved : List Float) (a b : ℕ) (poses joints : List Float) {answer : Division} {r : Refusal}
-    → four_whole (length lent) (length solved) a b ≡ false → answer ≡ Refused r → SubdividePromise read tol lent solved a b answer poses joints
-refused_promise (ChainRead.Refused s) tol lent solved a b poses joints w e = tt
-refused_promise (ChainRead.Chain k) tol lent solved a b poses joints w e = (
+refused_promise : (read : Result Kinematics Refusal) (tol : Tolerances) (lent solved : List Float) (a b : ℕ) (poses joints : List Float) {answer : Division} {r : Refusal}
+    → four_whole (length lent) (length solved) a b ≡ false → answer ≡ Err (DivisionError.Refused r) → SubdividePromise read tol lent solved a b answer poses joints
+refused_promise (Err s) tol lent solved a b poses joints w e = tt
+refused_promise (Ok k) tol lent solved a b poses joints w e = (
   record {
     begun = λ c. absurd (false≢true (sym w ∙ (all_pass k tol lent solved a b c).whole_is));
     price = λ start cone room l h i. refused_price e;
@@ -55,12 +54,12 @@ module _ (chain : List ℕ) (tol : Tolerances) (lent solved p₀ j₀ : List Flo
       let w = not-true (four_whole (length lent) (length solved) (length p₀) (length j₀)) e in
       (rw e s, (rw e, (rw e, rw e (refused_promise (read_chain chain) tol lent solved (length p₀) (length j₀) p₀ j₀ w refl))))
 
-  pub subdivide_bytes : {r : Refusal} → not (four_whole (length lent) (length solved) (length p₀) (length j₀)) ≡ false → read_chain chain ≡ ChainRead.Refused r → So (Refused r) p₀ j₀
+  pub subdivide_bytes : {r : Refusal} → not (four_whole (length lent) (length solved) (length p₀) (length j₀)) ≡ false → read_chain chain ≡ Err r → So (Err (DivisionError.Refused r)) p₀ j₀
   unfolding subdivide_of poses_left joints_left
   subdivide_bytes e f = (rw (e, f), (rw (e, f), (rw (e, f), rw (e, f) tt)))
 
   pub subdivide_chain : {k : Kinematics} {said : Division} {poses joints : List Float} → not (four_whole (length lent) (length solved) (length p₀) (length j₀)) ≡ false
-      → read_chain chain ≡ ChainRead.Chain k
+      → read_chain chain ≡ Ok k
       → (said ≡ division_in (subdivide_path k tol lent solved (length p₀) (length j₀)))
       × ((poses ≡ poses_left (subdivide_path k tol lent solved (length p₀) (length j₀)) p₀)
       × ((joints ≡ joints_left (subdivide_path k tol lent solved (length p₀) (length j₀)) j₀) × Both k said poses joints))
@@ -89,11 +88,11 @@ module _ (chain : List ℕ) (lent start : List Float) (cone : Float) (tol : Tole
   unfolding both_of poses_left joints_left
   both_lengths_bad e s = let g = not-true good e in (rw e s, (rw e, (rw e, rw g tt)))
 
-  pub both_bytes : {r : Refusal} → not good ≡ false → read_chain chain ≡ ChainRead.Refused r → BothSo (Refused r) p₀ j₀
+  pub both_bytes : {r : Refusal} → not good ≡ false → read_chain chain ≡ Err r → BothSo (Err (DivisionError.Refused r)) p₀ j₀
   unfolding both_of poses_left joints_left
   both_bytes e f = let g = not-false good e in (rw (e, f), (rw (e, f), (rw (e, f), rw (g, f) tt)))
 
-  pub both_chain : {k : Kinematics} {said : Division} {poses joints : List Float} → not good ≡ false → read_chain chain ≡ ChainRead.Chain k
+  pub both_chain : {k : Kinematics} {said : Division} {poses joints : List Float} → not good ≡ false → read_chain chain ≡ Ok k
       → (said ≡ division_in (solve_and_divide k lent (start_in start) cone tol (length p₀) (length j₀)))
       × ((poses ≡ poses_left (solve_and_divide k lent (start_in start) cone tol (length p₀) (length j₀)) p₀)
       × ((joints ≡ joints_left (solve_and_divide k lent (start_in start) cone tol (length p₀) (length j₀)) j₀)

@@ -2,7 +2,9 @@
 use mathlib.Core.Path.{◌≡◌, refl}
 use mathlib.Core.List.{List}
 use Prim.Native.Nat.{ℕ}
-use Rattle.job.specs.declared.JobRead.{JobRead}
+use Rattle.std.specs.Prelude.{Err, Ok, Result}
+use Rattle.refusal.specs.declared.Refusal.{Refusal}
+use Rattle.job.specs.declared.Job.{Job}
 use Rattle.job.specs.JobBytes.{read_job}
 use Rattle.job.proofs.JobChain.{one_chain}
 use Rattle.maztubel.specs.JobEntries.{ChainPromise}
@@ -10,6 +12,6 @@ use Rattle.maztubel.specs.JobEntries.{ChainPromise}
 pub chain_promised : (job : List ℕ) → ChainPromise job (read_job job)
 chain_promised job = by_read (read_job job) refl
   where
-    by_read : (read : JobRead) → read_job job ≡ read → ChainPromise job read
-    by_read (JobRead.Refused r) e = tt
-    by_read (JobRead.Job j) e = one_chain job j e
+    by_read : (read : Result Job Refusal) → read_job job ≡ read → ChainPromise job read
+    by_read (Err r) e = tt
+    by_read (Ok j) e = one_chain job j e

@@ -1,13 +1,17 @@
 -- Joint sets written over lent numbers: one over the whole of five, and a loop that writes fifty of them over a list, with a record for its invariant and a law each for its start, its step and its end.
-use Prim.Native.Nat.{ℕ, suc, ◌+◌, ◌*◌, ◌≤◌, ◌<◌}
+use Prim.Native.Nat.{ℕ, suc, ◌+◌, ◌-◌, ◌*◌, ◌≤◌, ◌<◌}
 use native.Mathlib.Numerals.{add-one}
 use native.Mathlib.Omega.{arith}
 use mathlib.Core.Path.{◌≡◌, refl, sym, ap, ◌∙◌}
 use mathlib.Core.List.{List, [], ◌∷◌, ◌++◌, append-nil}
-use lib.ListN.{length, take, get_or, length-append}
+use lib.ListN.{length, take, get_or, replicate, length-append, get_or-append, get_or-eq_default}
 use lib.Seq.{sets, sets-eq, length-sets, take_all, take_at, take-suc, length-take-le}
 use lib.Ieee.{Float}
+use mathlib.Core.Logic.{◌⊎◌, inl, inr}
+use Rattle.lists.specs.Padding.{padded}
 use Rattle.lists.specs.Rows.{flat}
+use Rattle.lists.proofs.Padding.{get_or_padded_past}
+use Rattle.float.proofs.Units.{le_or_lt}
 use Rattle.lists.proofs.Rows.{flat_append}
 use Rattle.chain.specs.declared.Joints.{Joints}
 use Rattle.maztubel.specs.Lent.{vector_over}
@@ -50,6 +54,14 @@ length_set_over j l i = rw (set_sets j l i) (length-sets l i (joint_numbers j))
 flat_one : (j : Joints) → flat joint_numbers (j ∷ []) ≡ joint_numbers j
 unfolding flat
 flat_one j = append-nil (joint_numbers j)
+
+-- an element of a list, or the constant behind it, is that of the padded list
+pub get_or_padded : {A : Type 0} (n : ℕ) (z : A) (l : List A) (k : ℕ) → k < n → get_or (padded n z l) k z ≡ get_or l k z
+get_or_padded n z l k p = by_place (le_or_lt (length l) k)
+  where
+    by_place : (length l ≤ k) ⊎ (k < length l) → get_or (padded n z l) k z ≡ get_or l k z
+    by_place (inl h) = get_or_padded_past n z l k z h p ∙ sym (get_or-eq_default l z h)
+    by_place (inr h) = unfold padded in get_or-append l (replicate (n - length l) z) z k h
 
 -- the first k of the joint sets stand in the list
 pub record Placing (sets : List Joints) (n : ℕ) (out : List Float) (k : ℕ) : Type 0 where

@@ -7,37 +7,37 @@ use mathlib.Core.List.{List}
 use borrow.Author.Tests.{eq-eqb, ne_eqb}
 use lib.ListN.{length}
 use lib.Ieee.{Float}
-use Rattle.refusal.specs.Numbers.{refusal, lengths_differ}
+use Rattle.std.specs.Prelude.{Err, Ok, Result}
+use Rattle.refusal.specs.Numbers.{refusal}
+use Rattle.refusal.specs.declared.Cause.{Cause}
 use Rattle.refusal.specs.declared.Refusal.{Refusal}
-use Rattle.chain.specs.declared.ChainRead.{ChainRead}
 use Rattle.chain.specs.declared.Kinematics.{Kinematics}
 use Rattle.chain.specs.ChainBytes.{read_chain}
 use Rattle.middle.specs.declared.Tolerances.{Tolerances}
-use Rattle.writer.specs.declared.Written.{Written}
 use Rattle.writer.specs.Checking.{written_answer, written_job, ReadBack, Rewritten}
 use Rattle.writer.proofs.Passing.{accepted}
 use Rattle.maztubel.specs.WriteEntries.{write_of, job_left, WritePromise}
 
 -- broken records are never written
-none_promised : (read : ChainRead) (poses : List Float) (cone : Float) (tol : Tolerances) (room : ℕ) → (length poses % 6 ≡ 0 → ⊥) → WritePromise read poses cone tol room
-none_promised (ChainRead.Refused r) poses cone tol room h = tt
-none_promised (ChainRead.Chain k) poses cone tol room h =
+none_promised : (read : Result Kinematics Refusal) (poses : List Float) (cone : Float) (tol : Tolerances) (room : ℕ) → (length poses % 6 ≡ 0 → ⊥) → WritePromise read poses cone tol room
+none_promised (Err r) poses cone tol room h = tt
+none_promised (Ok k) poses cone tol room h =
     (λ e. let w = (accepted k poses cone tol room e).whole in absurd (h (omega (arith, w))), λ e. let w = (accepted k poses cone tol room e).whole in absurd (h (omega (arith, w))))
 
 module _ (chain : List ℕ) (poses : List Float) (cone : Float) (tol : Tolerances) (o : List ℕ) where
-  abbrev So : Written → List ℕ → Type 0
+  abbrev So : Result ℕ Refusal → List ℕ → Type 0
   So said out =
       (said ≡ write_of chain poses cone tol (length o)) × ((out ≡ job_left chain poses cone tol o) × WritePromise (read_chain chain) poses cone tol (length o))
 
-  pub write_lengths : (length poses % 6 ≡ 0 → ⊥) → So (Written.Refused (refusal lengths_differ 0)) o
+  pub write_lengths : (length poses % 6 ≡ 0 → ⊥) → So (Err (refusal Cause.LengthsDiffer 0)) o
   unfolding write_of job_left
   write_lengths h = let e = ne_eqb _ _ h in (rw e, (rw e, none_promised (read_chain chain) poses cone tol (length o) h))
 
-  pub write_bytes : {r : Refusal} → length poses % 6 ≡ 0 → read_chain chain ≡ ChainRead.Refused r → So (Written.Refused r) o
+  pub write_bytes : {r : Refusal} → length poses % 6 ≡ 0 → read_chain chain ≡ Err r → So (Err r) o
   unfolding write_of job_left
   write_bytes h f = let e = eq-eqb _ _ h in (rw (e, f), (rw (e, f), rw f tt))
 
-  pub write_chain : {k : Kinematics} {said : Written} {out : List ℕ} → length poses % 6 ≡ 0 → read_chain chain ≡ ChainRead.Chain k
+  pub write_chain : {k : Kinematics} {said : Result ℕ Refusal} {out : List ℕ} → length poses % 6 ≡ 0 → read_chain chain ≡ Ok k
       → (said ≡ written_answer k poses cone tol (length o)) × ((out ≡ written_job k poses cone tol o) × (ReadBack k poses cone tol (length o) × Rewritten k poses cone tol (length o)))
       → So said out
   unfolding write_of job_left

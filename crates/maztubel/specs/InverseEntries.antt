@@ -1,23 +1,22 @@
 -- What the entries of the inverse map answer, from the bytes and numbers that they are lent: first 20, then 29, then the list of checks of `inverse`. With 21 and 22 every lent answer is +0.0; every other refusal keeps it.
-use Rattle.std.specs.Prelude.{ℕ, ◌+◌, Bool, ◌&&◌, ◌||◌, cond, List, [], ◌∷◌, eqb, ltb, length, get_or, set, replicate, Float}
+use Rattle.std.specs.Prelude.{ℕ, ◌+◌, Bool, true, false, ◌&&◌, cond, List, [], ◌∷◌, eqb, ltb, length, get_or, set, replicate, Float, Err, Ok, Result}
 use Rattle.std.specs.Float.{nan}
+use Rattle.lists.specs.Padding.{padded}
 use Rattle.lists.specs.Rows.{flat}
 use Rattle.float.specs.Helpers.{nought}
 use Rattle.geometry.specs.Vector.{vector}
 use Rattle.refusal.specs.declared.Refusal.{Refusal}
-use Rattle.refusal.specs.Numbers.{refusal, lengths_differ, not_reachable, outside_limits}
-use Rattle.chain.specs.declared.Checked.{Checked}
-use Rattle.chain.specs.declared.ChainRead.{ChainRead}
+use Rattle.refusal.specs.Numbers.{refusal}
+use Rattle.refusal.specs.declared.Cause.{Cause}
+use Rattle.chain.specs.declared.Kinematics.{Kinematics}
 use Rattle.chain.specs.declared.Joints.{Joints}
 use Rattle.chain.specs.declared.ToolPose.{ToolPose}
 use Rattle.chain.specs.ChainBytes.{read_chain}
 use Rattle.inverse.specs.declared.Angles.{Angles}
-use Rattle.inverse.specs.declared.Answers.{Answers}
 use Rattle.inverse.specs.declared.Choice.{Choice}
-use Rattle.inverse.specs.declared.Chosen.{Chosen}
-use Rattle.inverse.specs.declared.Solutions.{Solutions}
+use Rattle.inverse.specs.Solutions.{nowhere}
 use Rattle.inverse.specs.Wraps.{angles_of}
-use Rattle.inverse.specs.Inverse.{inverse, refused}
+use Rattle.inverse.specs.Inverse.{Answers, inverse}
 use Rattle.inverse.specs.Choose.{choose}
 use Rattle.maztubel.specs.Lent.{vector_over}
 
@@ -40,14 +39,14 @@ choice_of choice hint = cond (eqb choice 0) (Choice.Nearest hint.a0 hint.a1) (co
 
 -- ---- what is answered
 abbrev pub lengths_refused : Refusal
-lengths_refused = refusal lengths_differ 0
+lengths_refused = refusal Cause.LengthsDiffer 0
 
 abbrev pub refused_answers : Refusal → Answers
-refused_answers r = refused (Checked.Refused r)
+refused_answers r = Err r
 
-abbrev pub inverse_read : ChainRead → ToolPose → Float → Angles → Answers
-inverse_read (ChainRead.Refused r) pose tool hint = refused_answers r
-inverse_read (ChainRead.Chain k) pose tool hint = inverse k pose tool hint
+abbrev pub inverse_read : Result Kinematics Refusal → ToolPose → Float → Angles → Answers
+inverse_read (Err r) pose tool hint = refused_answers r
+inverse_read (Ok k) pose tool hint = inverse k pose tool hint
 
 -- `room` is how many numbers the lent list has
 unfoldable pub inverse_of : List ℕ → List Float → Float → List Float → ℕ → Answers
@@ -55,54 +54,49 @@ inverse_of chain pose tool hint room =
     cond (eqb (length pose) 6 && eqb (length hint) 2 && eqb room 250) (inverse_read (read_chain chain) (pose_in pose) tool (angles_in hint))
     (refused_answers lengths_refused)
 
-abbrev pub choose_read : ChainRead → ToolPose → Float → Choice → Chosen
-choose_read (ChainRead.Refused r) pose tool choice = Chosen.Refused r
-choose_read (ChainRead.Chain k) pose tool choice = choose k pose tool choice
+abbrev pub choose_read : Result Kinematics Refusal → ToolPose → Float → Choice → Result Joints Refusal
+choose_read (Err r) pose tool choice = Err r
+choose_read (Ok k) pose tool choice = choose k pose tool choice
 
 -- `room` is how many numbers the lent joints have
-unfoldable pub choose_of : List ℕ → List Float → Float → ℕ → List Float → ℕ → Chosen
+unfoldable pub choose_of : List ℕ → List Float → Float → ℕ → List Float → ℕ → Result Joints Refusal
 choose_of chain pose tool choice hint room =
     cond (eqb (length pose) 6 && eqb (length hint) 2 && eqb room 5 && ltb choice 3)
     (choose_read (read_chain chain) (pose_in pose) tool (choice_of choice (angles_in hint)))
-    (Chosen.Refused lengths_refused)
-
-abbrev pub chosen_check : Chosen → Checked
-chosen_check (Chosen.At j) = Checked.Passed
-chosen_check (Chosen.Refused r) = Checked.Refused r
+    (Err lengths_refused)
 
 -- ---- what is lent to be written
 -- the refusals that keep no lent answer
+abbrev pub keeps_none : Cause → Bool
+keeps_none Cause.NotReachable = true
+keeps_none Cause.OutsideLimits = true
+keeps_none _ = false
+
 unfoldable pub clears : Refusal → Bool
-clears r = eqb r.number not_reachable || eqb r.number outside_limits
+clears r = keeps_none r.cause
 
 -- five numbers: the gauge point's position, and an angle for each rotary
 unfoldable pub joint_numbers : Joints → List Float
 joint_numbers j = j.xyz.x ∷ j.xyz.y ∷ j.xyz.z ∷ j.a0 ∷ j.a1 ∷ []
 
--- the numbers of the 50 joint sets, one after another
-unfoldable pub set_numbers : Solutions → List Float
-set_numbers s = flat joint_numbers s.items
+-- the numbers of 50 joint sets, one after another: +0.0 behind those that there are
+unfoldable pub set_numbers : List Joints → List Float
+set_numbers l = flat joint_numbers (padded 50 nowhere l)
 
 -- a lent list afterwards
-abbrev pub list_after : Checked → Solutions → List Float → List Float
-list_after Checked.Passed s before = cond (eqb (length before) 250) (set_numbers s) before
-list_after (Checked.Refused r) s before = cond (clears r) (replicate (length before) nought) before
-
 abbrev pub list_over : Answers → List Float → List Float
-list_over answers before = list_after answers.checked answers.solutions before
+list_over (Ok s) before = cond (eqb (length before) 250) (set_numbers s.items) before
+list_over (Err r) before = cond (clears r) (replicate (length before) nought) before
 
 -- its count afterwards
-abbrev pub count_after : Checked → Solutions → ℕ → ℕ
-count_after Checked.Passed s before = s.count
-count_after (Checked.Refused r) s before = cond (clears r) 0 before
-
 abbrev pub count_over : Answers → ℕ → ℕ
-count_over answers before = count_after answers.checked answers.solutions before
+count_over (Ok s) before = length s.items
+count_over (Err r) before = cond (clears r) 0 before
 
 -- lent joints afterwards
-abbrev pub joints_over : Chosen → List Float → List Float
-joints_over (Chosen.At j) before = cond (eqb (length before) 5) (joint_numbers j) before
-joints_over (Chosen.Refused r) before = cond (clears r) (replicate (length before) nought) before
+abbrev pub joints_over : Result Joints Refusal → List Float → List Float
+joints_over (Ok j) before = cond (eqb (length before) 5) (joint_numbers j) before
+joints_over (Err r) before = cond (clears r) (replicate (length before) nought) before
 
 -- one joint set, from an index on
 unfoldable pub set_over : Joints → List Float → ℕ → List Float

@@ -1,41 +1,37 @@
 -- What the entries of a model answer, from the bytes and numbers that they are lent: first 20, then 29 for the chain's bytes, then the list of checks of `model`, which begins with 29 for the model's.
-use Rattle.std.specs.Prelude.{ℕ, ◌&&◌, cond, List, [], ◌∷◌, eqb, length, Float}
+use Rattle.std.specs.Prelude.{ℕ, ◌&&◌, cond, List, [], ◌∷◌, eqb, length, Float, Err, Ok, Result}
 use Rattle.geometry.specs.declared.Rigid.{Rigid}
-use Rattle.refusal.specs.Numbers.{refusal, lengths_differ}
-use Rattle.chain.specs.declared.Checked.{Checked}
-use Rattle.chain.specs.declared.ChainRead.{ChainRead}
+use Rattle.refusal.specs.declared.Refusal.{Refusal}
+use Rattle.refusal.specs.Numbers.{refusal}
+use Rattle.refusal.specs.declared.Cause.{Cause}
+use Rattle.chain.specs.Checked.{Checked}
 use Rattle.chain.specs.declared.Joints.{Joints}
 use Rattle.chain.specs.declared.Kinematics.{Kinematics}
 use Rattle.chain.specs.ChainBytes.{read_chain}
-use Rattle.model.specs.declared.Placed.{Placed}
 use Rattle.model.specs.ModelCheck.{check_model}
 use Rattle.maztubel.specs.Lent.{joints_in}
 
 -- ---- the model check
-abbrev pub model_read : ChainRead → List ℕ → List ℕ → Checked
-model_read (ChainRead.Refused r) name model = Checked.Refused r
-model_read (ChainRead.Chain k) name model = check_model name k model
+abbrev pub model_read : Result Kinematics Refusal → List ℕ → List ℕ → Checked
+model_read (Err r) name model = Err r
+model_read (Ok k) name model = check_model name k model
 
 unfoldable pub check_model_of : List ℕ → List ℕ → List ℕ → Checked
 check_model_of name chain model = model_read (read_chain chain) name model
 
 -- ---- link frames: a call of `model`, from a chain's name, the chain, a model, joints and a carrier
 abbrev pub Link : Type 0
-Link = List ℕ → Kinematics → List ℕ → Joints → List ℕ → Placed
+Link = List ℕ → Kinematics → List ℕ → Joints → List ℕ → Result Rigid Refusal
 
-abbrev pub link_read : Link → ChainRead → List ℕ → List ℕ → Joints → List ℕ → Placed
-link_read link (ChainRead.Refused r) name model j carrier = Placed.Refused r
-link_read link (ChainRead.Chain k) name model j carrier = link name k model j carrier
+abbrev pub link_read : Link → Result Kinematics Refusal → List ℕ → List ℕ → Joints → List ℕ → Result Rigid Refusal
+link_read link (Err r) name model j carrier = Err r
+link_read link (Ok k) name model j carrier = link name k model j carrier
 
 -- `room` is how many numbers the lent frame has
-unfoldable pub link_of : Link → List ℕ → List ℕ → List ℕ → List Float → List ℕ → ℕ → Placed
+unfoldable pub link_of : Link → List ℕ → List ℕ → List ℕ → List Float → List ℕ → ℕ → Result Rigid Refusal
 link_of link name chain model joints carrier room =
     cond (eqb (length joints) 5 && eqb room 12) (link_read link (read_chain chain) name model (joints_in joints) carrier)
-    (Placed.Refused (refusal lengths_differ 0))
-
-abbrev pub placed_check : Placed → Checked
-placed_check (Placed.At r) = Checked.Passed
-placed_check (Placed.Refused r) = Checked.Refused r
+    (Err (refusal Cause.LengthsDiffer 0))
 
 -- twelve numbers: the origin, then the three axes
 unfoldable pub frame_numbers : Rigid → List Float
@@ -47,6 +43,6 @@ frame_numbers r =
     ∷ []
 
 -- a lent frame afterwards
-abbrev pub frame_over : Placed → List Float → List Float
-frame_over (Placed.At r) before = cond (eqb (length before) 12) (frame_numbers r) before
-frame_over (Placed.Refused r) before = before
+abbrev pub frame_over : Result Rigid Refusal → List Float → List Float
+frame_over (Ok r) before = cond (eqb (length before) 12) (frame_numbers r) before
+frame_over (Err r) before = before

@@ -1,11 +1,12 @@
-// The entries of a chain. It is handed over as bytes, in the encoding of a job file; place and letter are written by every call.
+// The entries of a chain. It is handed over as bytes, in the encoding of a job file; place and letter are written by
+// every call.
 ghost use Rattle.std.specs.Prelude.{◌≡◌, length};
 ghost use Rattle.maztubel.specs.Lent as Lent;
 ghost use Rattle.maztubel.specs.ChainEntries as S;
 
 use crate::lent::{hand_back, joints_in, put_vector};
-use chain::{ChainRead, Checked, Posed};
-use refusal::Refusal;
+use chain::ToolPose;
+use refusal::{Cause, Refusal};
 
 pub fn maztubel_check_chain(chain: &[u8], at: &mut u64, letter: &mut u8) -> u32
     ensures number { result ≡ Lent.number_in (S.check_chain chain.now) }
@@ -13,7 +14,7 @@ pub fn maztubel_check_chain(chain: &[u8], at: &mut u64, letter: &mut u8) -> u32
     ensures named { letter.new ≡ Lent.letter_in (S.check_chain chain.now) }
 {
     let checked = check_chain(chain);
-    hand_back(checked, at, letter)
+    hand_back(&checked, at, letter)
 }
 
 pub fn maztubel_forward(
@@ -24,57 +25,47 @@ pub fn maztubel_forward(
     at: &mut u64,
     letter: &mut u8,
 ) -> u32
-    ensures number { result ≡ Lent.number_in (S.posed_check (S.forward_of chain.now joints.now tool_length (length pose.old))) }
-    ensures place { at.new ≡ Lent.place_in (S.posed_check (S.forward_of chain.now joints.now tool_length (length pose.old))) }
-    ensures named { letter.new ≡ Lent.letter_in (S.posed_check (S.forward_of chain.now joints.now tool_length (length pose.old))) }
+    ensures number { result ≡ Lent.number_in (S.forward_of chain.now joints.now tool_length (length pose.old)) }
+    ensures place { at.new ≡ Lent.place_in (S.forward_of chain.now joints.now tool_length (length pose.old)) }
+    ensures named { letter.new ≡ Lent.letter_in (S.forward_of chain.now joints.now tool_length (length pose.old)) }
     ensures lent { pose.new ≡ S.pose_over (S.forward_of chain.now joints.now tool_length (length pose.old)) pose.old }
 {
     let room = pose.len();
     let answer = forward_of(chain, joints, tool_length, room);
     put_pose(answer, pose);
-    hand_back(posed_check(answer), at, letter)
+    hand_back(&answer, at, letter)
 }
 
-fn check_chain(bytes: &[u8]) -> Checked
+#[tactic(auto, unfolding(crate::specs::ChainEntries::check_chain))]
+fn check_chain(bytes: &[u8]) -> Result<(), Refusal>
     ensures { result ≡ S.check_chain bytes.now }
 {
-    let read = chain::read_chain(bytes);
-    match read {
-        ChainRead::Refused(r) => Checked::Refused(r),
-        ChainRead::Chain(k) => chain::then(chain::chain_check(k), chain::chain_sizes(k)),
-    }
+    let k = chain::read_chain(bytes)?;
+    chain::chain_check(k)?;
+    chain::chain_sizes(k)
 }
 
-fn forward_of(chain: &[u8], joints: &[f64], tool_length: f64, room: usize) -> Posed
+#[tactic(auto, unfolding(crate::specs::ChainEntries::forward_of))]
+fn forward_of(
+    chain: &[u8],
+    joints: &[f64],
+    tool_length: f64,
+    room: usize,
+) -> Result<ToolPose, Refusal>
     ensures { result ≡ S.forward_of chain.now joints.now tool_length room }
 {
-    if joints.len() == 5 {
-        if room == 6 {
-            let j = joints_in(joints);
-            return chain::forward_from(chain, j, tool_length);
-        }
+    if joints.len() != 5 || room != 6 {
+        return Err(Refusal::new(Cause::LengthsDiffer, 0));
     }
-    Posed::Refused(Refusal {
-        number: refusal::LENGTHS_DIFFER,
-        at: 0,
-        letter: 0,
-    })
-}
-
-fn posed_check(answer: Posed) -> Checked
-    ensures { result ≡ S.posed_check answer }
-{
-    match answer {
-        Posed::At(_) => Checked::Passed,
-        Posed::Refused(r) => Checked::Refused(r),
-    }
+    chain::forward_from(chain, joints_in(joints), tool_length)
 }
 
 // Writes a pose where there is one, and six numbers' room for it.
-fn put_pose(answer: Posed, pose: &mut [f64])
+#[tactic(auto, using(crate::proofs::Written::pose_written))]
+fn put_pose(answer: Result<ToolPose, Refusal>, pose: &mut [f64])
     ensures { pose.new ≡ S.pose_over answer pose.old }
 {
-    let Posed::At(p) = answer else {
+    let Ok(p) = answer else {
         return;
     };
     if pose.len() == 6 {

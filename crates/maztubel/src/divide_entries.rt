@@ -1,18 +1,20 @@
-// The two entries that divide: given poses with their joints, or poses alone, which are solved first. What the first refuses before its first test keeps both outputs, and so does what the second refuses before its first pose; every
+// The two entries that divide: given poses with their joints, or poses alone, which are solved first. What the first
+// refuses before its first test keeps both outputs, and so does what the second refuses before its first pose; every
 // other refusal leaves +0.0 in both.
 ghost use Rattle.std.specs.Prelude.{◌≡◌, length};
+ghost use Rattle.refusal.specs.Numbers.{number_of};
 ghost use Rattle.chain.specs.ChainBytes.{read_chain};
 ghost use Rattle.divide.specs.Subdividing.{division_in, poses_left, joints_left};
 ghost use Rattle.maztubel.specs.PathEntries.{start_in};
 ghost use Rattle.maztubel.specs.DivideEntries as S;
 
 use crate::path_entries::{start_good, start_in};
-use chain::ChainRead;
-use divide::Division;
-use machine::Divided;
+use divide::DivisionError;
 use middle::Tolerances;
-use refusal::Refusal;
+use refusal::{Cause, Refusal};
+use turn::Stop;
 
+#[tactic(auto, using(crate::proofs::Causes::subdivide_says))]
 pub fn maztubel_subdivide_path(
     chain: &[u8],
     poses: &[f64],
@@ -38,6 +40,7 @@ pub fn maztubel_subdivide_path(
     hand_over(said, inserted, at, letter)
 }
 
+#[tactic(auto, using(crate::proofs::Causes::both_says))]
 pub fn maztubel_solve_and_divide(
     chain: &[u8],
     poses: &[f64],
@@ -66,29 +69,26 @@ pub fn maztubel_solve_and_divide(
     hand_over(said, inserted, at, letter)
 }
 
-fn ended_number(said: Divided) -> u32
-    ensures { result ≡ S.ended_number said }
+fn stop_number(stop: Stop) -> u32
+    ensures { result ≡ S.stop_number stop }
 {
-    match said {
-        Divided::Done(_) => 0,
-        Divided::TooMany(_) => refusal::TOO_MANY_INSERTIONS,
-        Divided::NoSpace(_) => refusal::NO_SPACE,
+    match stop {
+        Stop::TooMany(_) => Cause::TooManyInsertions.number(),
+        Stop::NoSpace(_) => Cause::NoSpace.number(),
     }
 }
 
-fn ended_count(said: Divided) -> u64
-    ensures { result ≡ S.ended_count said }
+fn stop_count(stop: Stop) -> u64
+    ensures { result ≡ S.stop_count stop }
 {
-    match said {
-        Divided::Done(n) => n,
-        Divided::TooMany(n) => n,
-        Divided::NoSpace(n) => n,
+    match stop {
+        Stop::TooMany(n) | Stop::NoSpace(n) => n,
     }
 }
 
 // A refusal's number, its place and letter written.
 fn hand_refusal(r: Refusal, inserted: &mut u64, at: &mut u64, letter: &mut u8) -> u32
-    ensures number { result ≡ r.number }
+    ensures number { result ≡ number_of r.cause }
     ensures count { inserted.new ≡ 0 }
     ensures place { at.new ≡ r.at }
     ensures named { letter.new ≡ r.letter }
@@ -96,36 +96,44 @@ fn hand_refusal(r: Refusal, inserted: &mut u64, at: &mut u64, letter: &mut u8) -
     *inserted = 0;
     *at = r.at;
     *letter = r.letter;
-    r.number
+    r.cause.number()
 }
 
 // The number, and the count, place and letter written.
-pub fn hand_over(said: Division, inserted: &mut u64, at: &mut u64, letter: &mut u8) -> u32
+pub fn hand_over(
+    said: Result<u64, DivisionError>,
+    inserted: &mut u64,
+    at: &mut u64,
+    letter: &mut u8,
+) -> u32
     ensures number { result ≡ S.division_number said }
     ensures count { inserted.new ≡ S.inserted_in said }
     ensures place { at.new ≡ S.division_place said }
     ensures named { letter.new ≡ S.division_letter said }
 {
     match said {
-        Division::Refused(r) => hand_refusal(r, inserted, at, letter),
-        Division::AtPose(r) => hand_refusal(r, inserted, at, letter),
-        Division::Ended(d) => {
-            *inserted = ended_count(d);
+        Ok(n) => {
+            *inserted = n;
             *at = 0;
             *letter = 0;
-            ended_number(d)
+            0
+        }
+        Err(DivisionError::Refused(r) | DivisionError::AtPose(r)) => {
+            hand_refusal(r, inserted, at, letter)
+        }
+        Err(DivisionError::Stopped(stop)) => {
+            *inserted = stop_count(stop);
+            *at = 0;
+            *letter = 0;
+            stop_number(stop)
         }
     }
 }
 
-fn lengths_refused() -> Division
+fn lengths_refused() -> Result<u64, DivisionError>
     ensures { result ≡ S.lengths_refused }
 {
-    Division::Refused(Refusal {
-        number: refusal::LENGTHS_DIFFER,
-        at: 0,
-        letter: 0,
-    })
+    Err(DivisionError::Refused(Refusal::new(Cause::LengthsDiffer, 0)))
 }
 
 pub fn subdivide_of(
@@ -136,7 +144,7 @@ pub fn subdivide_of(
     axis: f64,
     out_poses: &mut [f64],
     out_joints: &mut [f64],
-) -> Division
+) -> Result<u64, DivisionError>
     ensures answer { result ≡ division_in (S.subdivide_of chain.now (S.tolerances chord axis) poses.now joints.now (length out_poses.old) (length out_joints.old)) }
     ensures poses { out_poses.new ≡ poses_left (S.subdivide_of chain.now (S.tolerances chord axis) poses.now joints.now (length out_poses.old) (length out_joints.old)) out_poses.old }
     ensures joints { out_joints.new ≡ joints_left (S.subdivide_of chain.now (S.tolerances chord axis) poses.now joints.now (length out_poses.old) (length out_joints.old)) out_joints.old }
@@ -145,22 +153,17 @@ pub fn subdivide_of(
     if !divide::four_whole(poses.len(), joints.len(), out_poses.len(), out_joints.len()) {
         return lengths_refused();
     }
-    let read = chain::read_chain(chain);
+    let k = chain::read_chain(chain)?;
     let tol = Tolerances { chord, axis };
-    match read {
-        ChainRead::Refused(r) => Division::Refused(r),
-        ChainRead::Chain(k) => divide::subdivide_path(k, tol, poses, joints, out_poses, out_joints),
-    }
+    divide::subdivide_path(k, tol, poses, joints, out_poses, out_joints)
 }
 
 // The records are whole, and the start is five numbers or none.
+#[tactic(auto, unfolding(crate::specs::DivideEntries::both_lengths))]
 fn both_lengths(poses: usize, start: usize, room_poses: usize, room_joints: usize) -> bool
     ensures { result ≡ S.both_lengths poses start room_poses room_joints }
 {
-    if divide::three_whole(poses, room_poses, room_joints) {
-        return start_good(start);
-    }
-    false
+    divide::three_whole(poses, room_poses, room_joints) && start_good(start)
 }
 
 fn both_of(
@@ -172,7 +175,7 @@ fn both_of(
     axis: f64,
     out_poses: &mut [f64],
     out_joints: &mut [f64],
-) -> Division
+) -> Result<u64, DivisionError>
     ensures answer { result ≡ division_in (S.both_of chain.now poses.now start.now cone (S.tolerances chord axis) (length out_poses.old) (length out_joints.old)) }
     ensures poses { out_poses.new ≡ poses_left (S.both_of chain.now poses.now start.now cone (S.tolerances chord axis) (length out_poses.old) (length out_joints.old)) out_poses.old }
     ensures joints { out_joints.new ≡ joints_left (S.both_of chain.now poses.now start.now cone (S.tolerances chord axis) (length out_poses.old) (length out_joints.old)) out_joints.old }
@@ -181,13 +184,7 @@ fn both_of(
     if !both_lengths(poses.len(), start.len(), out_poses.len(), out_joints.len()) {
         return lengths_refused();
     }
-    let read = chain::read_chain(chain);
-    let begin = start_in(start);
+    let k = chain::read_chain(chain)?;
     let tol = Tolerances { chord, axis };
-    match read {
-        ChainRead::Refused(r) => Division::Refused(r),
-        ChainRead::Chain(k) => divide::solve_and_divide(
-            k, poses, begin, cone, tol, out_poses, out_joints,
-        ),
-    }
+    divide::solve_and_divide(k, poses, start_in(start), cone, tol, out_poses, out_joints)
 }

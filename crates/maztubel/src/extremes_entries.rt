@@ -6,15 +6,14 @@ ghost use Rattle.maztubel.specs.Lent as Lent;
 ghost use Rattle.maztubel.specs.ExtremesEntries as S;
 
 use crate::lent::number_in;
-use chain::Checked;
-use extremes::Asked;
+use refusal::Refusal;
 
 pub fn maztubel_build_extremes(joints: &[f64], summary: &mut [f64]) -> u32
     ensures number { result ≡ Lent.number_in (Checking.build_check joints.now (length summary.old)) }
     ensures lent { summary.new ≡ Entries.summary_built joints.now summary.old }
 {
     let checked = extremes::build(joints, summary);
-    number_in(checked)
+    number_in(&checked)
 }
 
 pub fn maztubel_replace_joints(
@@ -29,7 +28,7 @@ pub fn maztubel_replace_joints(
     ensures own { Entries.StaysOwn joints.old summary.old joints.new summary.new }
 {
     let checked = extremes::replace(joints, summary, index as usize, fresh);
-    number_in(checked)
+    number_in(&checked)
 }
 
 pub fn maztubel_first_above(
@@ -40,7 +39,7 @@ pub fn maztubel_first_above(
     found: &mut u64,
     index: &mut u64,
 ) -> u32
-    ensures number { result ≡ Lent.number_in (S.asked_check (Entries.ask_of joints.now summary.now rotary angle)) }
+    ensures number { result ≡ Lent.number_in (Entries.ask_of joints.now summary.now rotary angle) }
     ensures found { found.new ≡ S.found_over (Entries.ask_of joints.now summary.now rotary angle) found.old }
     ensures index { index.new ≡ S.index_over (Entries.ask_of joints.now summary.now rotary angle) index.old }
     ensures read { Entries.AsRead joints.now summary.now rotary angle (Entries.ask_of joints.now summary.now rotary angle) }
@@ -48,32 +47,22 @@ pub fn maztubel_first_above(
 {
     let asked = extremes::ask(joints, summary, rotary as usize, angle);
     put_asked(asked, found, index);
-    number_in(asked_check(asked))
+    number_in(&asked)
 }
 
-fn asked_check(asked: Asked) -> Checked
-    ensures { result ≡ S.asked_check asked }
-{
-    match asked {
-        Asked::At(_) => Checked::Passed,
-        Asked::NoneAbove => Checked::Passed,
-        Asked::Refused(r) => Checked::Refused(r),
-    }
-}
-
-fn put_asked(asked: Asked, found: &mut u64, index: &mut u64)
+fn put_asked(asked: Result<Option<usize>, Refusal>, found: &mut u64, index: &mut u64)
     ensures found { found.new ≡ S.found_over asked found.old }
     ensures index { index.new ≡ S.index_over asked index.old }
 {
     match asked {
-        Asked::At(i) => {
+        Ok(Some(i)) => {
             *found = 1;
             *index = i as u64;
         }
-        Asked::NoneAbove => {
+        Ok(None) => {
             *found = 0;
             *index = 0;
         }
-        Asked::Refused(_) => {}
+        Err(_) => {}
     }
 }

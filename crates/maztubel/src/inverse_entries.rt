@@ -1,14 +1,15 @@
-// The entries of the inverse map: every joint set that reaches a pose, and one of them by a choice. A chain is handed over as bytes; place and letter are written by every call, and with 21 and 22 what was lent for the answer is +0.0.
+// The entries of the inverse map: every joint set that reaches a pose, and one of them by a choice. A chain is handed
+// over as bytes; place and letter are written by every call, and with 21 and 22 what was lent for the answer is +0.0.
 ghost use Rattle.std.specs.Prelude.{◌+◌, ◌≤◌, ◌≡◌, length, replicate};
 ghost use Rattle.float.specs.Helpers.{nought};
 ghost use Rattle.maztubel.specs.Lent as Lent;
 ghost use Rattle.maztubel.specs.InverseEntries as S;
 
 use crate::lent::{hand_back, put_vector};
-use chain::{ChainRead, Checked, Joints, ToolPose};
+use chain::{Joints, ToolPose};
 use geometry::Vec3;
-use inverse::{Angles, Answers, Choice, Chosen, Solutions};
-use refusal::Refusal;
+use inverse::{Angles, Choice, Solutions};
+use refusal::{Cause, Refusal};
 
 pub fn maztubel_inverse(
     chain: &[u8],
@@ -20,18 +21,17 @@ pub fn maztubel_inverse(
     at: &mut u64,
     letter: &mut u8,
 ) -> u32
-    ensures number { result ≡ Lent.number_in (S.inverse_of chain.now pose.now tool_length hint.now (length list.old)).checked }
-    ensures place { at.new ≡ Lent.place_in (S.inverse_of chain.now pose.now tool_length hint.now (length list.old)).checked }
-    ensures named { letter.new ≡ Lent.letter_in (S.inverse_of chain.now pose.now tool_length hint.now (length list.old)).checked }
+    ensures number { result ≡ Lent.number_in (S.inverse_of chain.now pose.now tool_length hint.now (length list.old)) }
+    ensures place { at.new ≡ Lent.place_in (S.inverse_of chain.now pose.now tool_length hint.now (length list.old)) }
+    ensures named { letter.new ≡ Lent.letter_in (S.inverse_of chain.now pose.now tool_length hint.now (length list.old)) }
     ensures lent { list.new ≡ S.list_over (S.inverse_of chain.now pose.now tool_length hint.now (length list.old)) list.old }
     ensures counted { count.new ≡ S.count_over (S.inverse_of chain.now pose.now tool_length hint.now (length list.old)) count.old }
 {
     let room = list.len();
     let answers = inverse_of(chain, pose, tool_length, hint, room);
-    put_list(answers, list);
-    put_count(answers, count);
-    let checked = answers.checked;
-    hand_back(checked, at, letter)
+    put_list(&answers, list);
+    put_count(&answers, count);
+    hand_back(&answers, at, letter)
 }
 
 pub fn maztubel_choose(
@@ -44,20 +44,21 @@ pub fn maztubel_choose(
     at: &mut u64,
     letter: &mut u8,
 ) -> u32
-    ensures number { result ≡ Lent.number_in (S.chosen_check (S.choose_of chain.now pose.now tool_length choice hint.now (length joints.old))) }
-    ensures place { at.new ≡ Lent.place_in (S.chosen_check (S.choose_of chain.now pose.now tool_length choice hint.now (length joints.old))) }
-    ensures named { letter.new ≡ Lent.letter_in (S.chosen_check (S.choose_of chain.now pose.now tool_length choice hint.now (length joints.old))) }
+    ensures number { result ≡ Lent.number_in (S.choose_of chain.now pose.now tool_length choice hint.now (length joints.old)) }
+    ensures place { at.new ≡ Lent.place_in (S.choose_of chain.now pose.now tool_length choice hint.now (length joints.old)) }
+    ensures named { letter.new ≡ Lent.letter_in (S.choose_of chain.now pose.now tool_length choice hint.now (length joints.old)) }
     ensures lent { joints.new ≡ S.joints_over (S.choose_of chain.now pose.now tool_length choice hint.now (length joints.old)) joints.old }
 {
     let room = joints.len();
     let answer = choose_of(chain, pose, tool_length, choice, hint, room);
     put_chosen(answer, joints);
-    hand_back(chosen_check(answer), at, letter)
+    hand_back(&answer, at, letter)
 }
 
 // ---- what is lent to be read
 
 // Six numbers as a pose.
+#[tactic(auto, unfolding(crate::specs::InverseEntries::pose_in))]
 pub fn pose_in(pose: &[f64]) -> ToolPose
     requires { length pose.now ≡ 6 }
     ensures { result ≡ S.pose_in pose.now }
@@ -76,6 +77,7 @@ pub fn pose_in(pose: &[f64]) -> ToolPose
 }
 
 // Two numbers as angles.
+#[tactic(auto, unfolding(crate::specs::InverseEntries::angles_in))]
 pub fn angles_in(hint: &[f64]) -> Angles
     requires { length hint.now ≡ 2 }
     ensures { result ≡ S.angles_in hint.now }
@@ -85,79 +87,43 @@ pub fn angles_in(hint: &[f64]) -> Angles
     Angles { a0, a1 }
 }
 
+#[tactic(auto, unfolding(crate::specs::InverseEntries::choice_of))]
 pub fn choice_of(choice: u32, hint: Angles) -> Choice
     ensures { result ≡ S.choice_of choice hint }
 {
-    if choice == 0 {
-        return Choice::Nearest(hint.a0, hint.a1);
+    match choice {
+        0 => Choice::Nearest(hint.a0, hint.a1),
+        1 => Choice::FirstPositive,
+        _ => Choice::FirstNegative,
     }
-    if choice == 1 {
-        return Choice::FirstPositive;
-    }
-    Choice::FirstNegative
 }
 
 // ---- what is answered
 
-fn refused_answers(r: Refusal) -> Answers
-    ensures { result ≡ S.refused_answers r }
-{
-    let xyz = Vec3 {
-        x: 0.0,
-        y: 0.0,
-        z: 0.0,
-    };
-    let nowhere = Joints {
-        xyz,
-        a0: 0.0,
-        a1: 0.0,
-    };
-    let solutions = Solutions {
-        count: 0,
-        items: [nowhere; 50],
-    };
-    Answers {
-        checked: Checked::Refused(r),
-        solutions,
-    }
-}
-
 pub fn lengths_differ() -> Refusal
     ensures { result ≡ S.lengths_refused }
 {
-    Refusal {
-        number: refusal::LENGTHS_DIFFER,
-        at: 0,
-        letter: 0,
-    }
+    Refusal::new(Cause::LengthsDiffer, 0)
 }
 
-fn inverse_of(chain: &[u8], pose: &[f64], tool_length: f64, hint: &[f64], room: usize) -> Answers
+#[tactic(auto, unfolding(crate::specs::InverseEntries::inverse_of))]
+fn inverse_of(
+    chain: &[u8],
+    pose: &[f64],
+    tool_length: f64,
+    hint: &[f64],
+    room: usize,
+) -> Result<Solutions, Refusal>
     ensures { result ≡ S.inverse_of chain.now pose.now tool_length hint.now room }
 {
-    if pose.len() != 6 {
-        return refused_answers(lengths_differ());
+    if pose.len() != 6 || hint.len() != 2 || room != 250 {
+        return Err(lengths_differ());
     }
-    if hint.len() != 2 {
-        return refused_answers(lengths_differ());
-    }
-    if room != 250 {
-        return refused_answers(lengths_differ());
-    }
-    let p = pose_in(pose);
-    let h = angles_in(hint);
-    inverse_read(chain::read_chain(chain), p, tool_length, h)
+    let k = chain::read_chain(chain)?;
+    inverse::inverse(k, pose_in(pose), tool_length, angles_in(hint))
 }
 
-fn inverse_read(read: ChainRead, pose: ToolPose, tool_length: f64, hint: Angles) -> Answers
-    ensures { result ≡ S.inverse_read read pose tool_length hint }
-{
-    match read {
-        ChainRead::Refused(r) => refused_answers(r),
-        ChainRead::Chain(k) => inverse::inverse(k, pose, tool_length, hint),
-    }
-}
-
+#[tactic(auto, unfolding(crate::specs::InverseEntries::choose_of))]
 fn choose_of(
     chain: &[u8],
     pose: &[f64],
@@ -165,69 +131,35 @@ fn choose_of(
     choice: u32,
     hint: &[f64],
     room: usize,
-) -> Chosen
+) -> Result<Joints, Refusal>
     ensures { result ≡ S.choose_of chain.now pose.now tool_length choice hint.now room }
 {
-    let broken = lengths_differ();
-    if pose.len() != 6 {
-        return Chosen::Refused(broken);
+    if pose.len() != 6 || hint.len() != 2 || room != 5 || 3 <= choice {
+        return Err(lengths_differ());
     }
-    if hint.len() != 2 {
-        return Chosen::Refused(broken);
-    }
-    if room != 5 {
-        return Chosen::Refused(broken);
-    }
-    if 3 <= choice {
-        return Chosen::Refused(broken);
-    }
-    let p = pose_in(pose);
+    let k = chain::read_chain(chain)?;
     let c = choice_of(choice, angles_in(hint));
-    choose_read(chain::read_chain(chain), p, tool_length, c)
-}
-
-fn choose_read(read: ChainRead, pose: ToolPose, tool_length: f64, choice: Choice) -> Chosen
-    ensures { result ≡ S.choose_read read pose tool_length choice }
-{
-    match read {
-        ChainRead::Refused(r) => Chosen::Refused(r),
-        ChainRead::Chain(k) => inverse::choose(k, pose, tool_length, choice),
-    }
-}
-
-pub fn chosen_check(answer: Chosen) -> Checked
-    ensures { result ≡ S.chosen_check answer }
-{
-    match answer {
-        Chosen::At(_) => Checked::Passed,
-        Chosen::Refused(r) => Checked::Refused(r),
-    }
+    inverse::choose(k, pose_in(pose), tool_length, c)
 }
 
 // ---- what is lent to be written
 
 // Whether no lent answer is kept: where the axis is reached nowhere, or outside the limits alone.
+#[tactic(auto, unfolding(crate::specs::InverseEntries::clears))]
 fn clears(r: Refusal) -> bool
     ensures { result ≡ S.clears r }
 {
-    if r.number == refusal::NOT_REACHABLE {
-        return true;
-    }
-    r.number == refusal::OUTSIDE_LIMITS
+    matches!(r.cause, Cause::NotReachable | Cause::OutsideLimits)
 }
 
 fn clear(numbers: &mut [f64])
     ensures { numbers.new ≡ replicate (length numbers.old) nought }
 {
-    let n = numbers.len();
-    let mut i: usize = 0;
-    while i < n {
-        numbers[i] = 0.0;
-        i += 1;
-    }
+    numbers.fill(0.0);
 }
 
 // Writes a joint set's five numbers from an index on.
+#[tactic(auto, unfolding(crate::specs::InverseEntries::set_over))]
 fn put_joints(j: Joints, numbers: &mut [f64], at: usize)
     requires { at + 5 ≤ length numbers.old }
     ensures { numbers.new ≡ S.set_over j numbers.old at }
@@ -237,65 +169,61 @@ fn put_joints(j: Joints, numbers: &mut [f64], at: usize)
     numbers[at + 4] = j.a1;
 }
 
-// All 50 joint sets, one after another.
-fn put_sets(s: Solutions, list: &mut [f64])
-    requires { length list.old ≡ 250 }
-    ensures { list.new ≡ S.set_numbers s }
+// All 50 joint sets, one after another: +0.0 behind those that there are.
+fn put_sets(solutions: &[Joints], list: &mut [f64])
+    requires few { length solutions.now ≤ 50 }
+    requires room { length list.old ≡ 250 }
+    ensures { list.new ≡ S.set_numbers solutions.now }
 {
-    let items = s.items;
-    let mut k: usize = 0;
-    while k < 50 {
-        let j = items[k];
+    for k in 0..50 {
+        let j = solutions.get(k).copied().unwrap_or_default();
         put_joints(j, list, k * 5);
-        k += 1;
     }
 }
 
-fn put_list(answers: Answers, list: &mut [f64])
-    ensures { list.new ≡ S.list_over answers list.old }
+fn put_list(answers: &Result<Solutions, Refusal>, list: &mut [f64])
+    ensures { list.new ≡ S.list_over answers.now list.old }
 {
-    let checked = answers.checked;
-    match checked {
-        Checked::Passed => {
+    match answers {
+        Ok(solutions) => {
             if list.len() == 250 {
-                put_sets(answers.solutions, list);
+                put_sets(solutions, list);
             }
         }
-        Checked::Refused(r) => {
-            if clears(r) {
+        Err(r) => {
+            if clears(*r) {
                 clear(list);
             }
         }
     }
 }
 
-fn put_count(answers: Answers, count: &mut u64)
-    ensures { count.new ≡ S.count_over answers count.old }
+fn put_count(answers: &Result<Solutions, Refusal>, count: &mut u64)
+    ensures { count.new ≡ S.count_over answers.now count.old }
 {
-    let checked = answers.checked;
-    let solutions = answers.solutions;
-    match checked {
-        Checked::Passed => {
-            *count = solutions.count as u64;
+    match answers {
+        Ok(solutions) => {
+            *count = solutions.len() as u64;
         }
-        Checked::Refused(r) => {
-            if clears(r) {
+        Err(r) => {
+            if clears(*r) {
                 *count = 0;
             }
         }
     }
 }
 
-pub fn put_chosen(answer: Chosen, joints: &mut [f64])
+#[tactic(auto, using(crate::proofs::Sets::set_written))]
+pub fn put_chosen(answer: Result<Joints, Refusal>, joints: &mut [f64])
     ensures { joints.new ≡ S.joints_over answer joints.old }
 {
     match answer {
-        Chosen::At(j) => {
+        Ok(j) => {
             if joints.len() == 5 {
                 put_joints(j, joints, 0);
             }
         }
-        Chosen::Refused(r) => {
+        Err(r) => {
             if clears(r) {
                 clear(joints);
             }

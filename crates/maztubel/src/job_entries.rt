@@ -1,4 +1,5 @@
-// The entries of a job: what its bytes say, its poses in lent numbers, and the cable number of a rotary on a path. A refusal keeps all that is lent but the place, and the letter where there is one.
+// The entries of a job: what its bytes say, its poses in lent numbers, and the cable number of a rotary on a path. A
+// refusal keeps all that is lent but the place, and the letter where there is one.
 ghost use Rattle.std.specs.Prelude.{◌≡◌, length};
 ghost use Rattle.chain.specs.ChainBytes.{read_chain};
 ghost use Rattle.job.specs.JobBytes.{read_job};
@@ -7,10 +8,10 @@ ghost use Rattle.maztubel.specs.Lent as Lent;
 ghost use Rattle.maztubel.specs.JobEntries as S;
 
 use crate::lent::hand_back;
-use chain::{ChainRead, Checked};
-use job::{Cable, JobRead};
-use refusal::Refusal;
+use job::Job;
+use refusal::{Cause, Refusal};
 
+#[tactic(auto, using(crate::proofs::JobChains::chain_promised))]
 pub fn maztubel_read_job(
     job: &[u8],
     chain_at: &mut u64,
@@ -22,8 +23,8 @@ pub fn maztubel_read_job(
     axis: &mut f64,
     at: &mut u64,
 ) -> u32
-    ensures number { result ≡ Lent.number_in (S.read_check (read_job job.now)) }
-    ensures place { at.new ≡ Lent.place_in (S.read_check (read_job job.now)) }
+    ensures number { result ≡ Lent.number_in (read_job job.now) }
+    ensures place { at.new ≡ Lent.place_in (read_job job.now) }
     ensures chain { chain_at.new ≡ S.chain_over (read_job job.now) chain_at.old }
     ensures length { chain_length.new ≡ S.length_over (read_job job.now) chain_length.old }
     ensures poses { poses_at.new ≡ S.poses_over (read_job job.now) poses_at.old }
@@ -37,7 +38,7 @@ pub fn maztubel_read_job(
     put_chain_places(read, chain_at, chain_length);
     put_places(read, poses_at, count);
     put_tolerances(read, cone, chord, axis);
-    hand_place(read_check(read), at)
+    hand_place(&read, at)
 }
 
 pub fn maztubel_job_poses(job: &[u8], poses: &mut [f64], at: &mut u64) -> u32
@@ -46,9 +47,10 @@ pub fn maztubel_job_poses(job: &[u8], poses: &mut [f64], at: &mut u64) -> u32
     ensures lent { poses.new ≡ job_poses job.now poses.old }
 {
     let checked = job::job_poses(job, poses);
-    hand_place(checked, at)
+    hand_place(&checked, at)
 }
 
+#[tactic(auto, using(crate::proofs::Cables::cable_promised))]
 pub fn maztubel_cable_number(
     chain: &[u8],
     joints: &[f64],
@@ -57,72 +59,62 @@ pub fn maztubel_cable_number(
     at: &mut u64,
     letter: &mut u8,
 ) -> u32
-    ensures number { result ≡ Lent.number_in (S.cable_check (S.cable_of chain.now joints.now rotary)) }
-    ensures place { at.new ≡ Lent.place_in (S.cable_check (S.cable_of chain.now joints.now rotary)) }
-    ensures named { letter.new ≡ Lent.letter_in (S.cable_check (S.cable_of chain.now joints.now rotary)) }
+    ensures number { result ≡ Lent.number_in (S.cable_of chain.now joints.now rotary) }
+    ensures place { at.new ≡ Lent.place_in (S.cable_of chain.now joints.now rotary) }
+    ensures named { letter.new ≡ Lent.letter_in (S.cable_of chain.now joints.now rotary) }
     ensures lent { number.new ≡ S.number_over (S.cable_of chain.now joints.now rotary) number.old }
     ensures largest { S.CablePromise (read_chain chain.now) joints.now rotary (S.cable_of chain.now joints.now rotary) }
 {
     let cable = cable_of(chain, joints, rotary);
     put_cable(cable, number);
-    hand_back(cable_check(cable), at, letter)
+    hand_back(&cable, at, letter)
 }
 
 // The refusal's number, its place written; 0 and 0 where there is none.
-fn hand_place(checked: Checked, at: &mut u64) -> u32
-    ensures number { result ≡ Lent.number_in checked }
-    ensures place { at.new ≡ Lent.place_in checked }
+fn hand_place<T>(answer: &Result<T, Refusal>, at: &mut u64) -> u32
+    ensures number { result ≡ Lent.number_in answer.now }
+    ensures place { at.new ≡ Lent.place_in answer.now }
 {
-    match checked {
-        Checked::Passed => {
+    match answer {
+        Ok(_) => {
             *at = 0;
             0
         }
-        Checked::Refused(r) => {
+        Err(r) => {
             *at = r.at;
-            r.number
+            r.cause.number()
         }
     }
 }
 
-// ---- what a job's bytes say
-fn read_check(read: JobRead) -> Checked
-    ensures { result ≡ S.read_check read }
-{
-    match read {
-        JobRead::Job(_) => Checked::Passed,
-        JobRead::Refused(r) => Checked::Refused(r),
-    }
-}
-
-fn put_chain_places(read: JobRead, chain_at: &mut u64, chain_length: &mut u64)
+fn put_chain_places(read: Result<Job, Refusal>, chain_at: &mut u64, chain_length: &mut u64)
     ensures chain { chain_at.new ≡ S.chain_over read chain_at.old }
     ensures length { chain_length.new ≡ S.length_over read chain_length.old }
 {
-    let JobRead::Job(j) = read else {
+    let Ok(j) = read else {
         return;
     };
     *chain_at = j.chain_at as u64;
     *chain_length = j.chain_length as u64;
 }
 
-fn put_places(read: JobRead, poses_at: &mut u64, count: &mut u64)
+fn put_places(read: Result<Job, Refusal>, poses_at: &mut u64, count: &mut u64)
     ensures poses { poses_at.new ≡ S.poses_over read poses_at.old }
     ensures count { count.new ≡ S.count_over read count.old }
 {
-    let JobRead::Job(j) = read else {
+    let Ok(j) = read else {
         return;
     };
     *poses_at = j.poses_at as u64;
     *count = j.poses as u64;
 }
 
-fn put_tolerances(read: JobRead, cone: &mut f64, chord: &mut f64, axis: &mut f64)
+fn put_tolerances(read: Result<Job, Refusal>, cone: &mut f64, chord: &mut f64, axis: &mut f64)
     ensures cone { cone.new ≡ S.cone_over read cone.old }
     ensures chord { chord.new ≡ S.chord_over read chord.old }
     ensures axis { axis.new ≡ S.axis_over read axis.old }
 {
-    let JobRead::Job(j) = read else {
+    let Ok(j) = read else {
         return;
     };
     *cone = j.cone;
@@ -131,36 +123,21 @@ fn put_tolerances(read: JobRead, cone: &mut f64, chord: &mut f64, axis: &mut f64
 }
 
 // ---- the cable number
-fn cable_of(chain: &[u8], joints: &[f64], rotary: u64) -> Cable
+#[tactic(auto, unfolding(crate::specs::JobEntries::cable_of))]
+fn cable_of(chain: &[u8], joints: &[f64], rotary: u64) -> Result<u64, Refusal>
     ensures { result ≡ S.cable_of chain.now joints.now rotary }
 {
     if joints.len() % 5 != 0 {
-        return Cable::Refused(Refusal {
-            number: refusal::LENGTHS_DIFFER,
-            at: 0,
-            letter: 0,
-        });
+        return Err(Refusal::new(Cause::LengthsDiffer, 0));
     }
-    let read = chain::read_chain(chain);
-    match read {
-        ChainRead::Refused(r) => Cable::Refused(r),
-        ChainRead::Chain(k) => job::cable_number(k, joints, rotary as usize),
-    }
+    let k = chain::read_chain(chain)?;
+    job::cable_number(k, joints, rotary as usize)
 }
 
-fn cable_check(cable: Cable) -> Checked
-    ensures { result ≡ S.cable_check cable }
-{
-    match cable {
-        Cable::Turns(_) => Checked::Passed,
-        Cable::Refused(r) => Checked::Refused(r),
-    }
-}
-
-fn put_cable(cable: Cable, number: &mut u64)
+fn put_cable(cable: Result<u64, Refusal>, number: &mut u64)
     ensures { number.new ≡ S.number_over cable number.old }
 {
-    let Cable::Turns(k) = cable else {
+    let Ok(k) = cable else {
         return;
     };
     *number = k;

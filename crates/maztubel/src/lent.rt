@@ -2,40 +2,42 @@
 ghost use Rattle.std.specs.Prelude.{◌+◌, ◌≤◌, ◌≡◌, length};
 ghost use Rattle.maztubel.specs.Lent as S;
 
-use chain::{Checked, Joints};
+use chain::Joints;
 use geometry::Vec3;
+use refusal::Refusal;
 
 // The refusal's number, its place and letter written; 0, 0 and 0 where there is none.
-pub fn hand_back(checked: Checked, at: &mut u64, letter: &mut u8) -> u32
-    ensures number { result ≡ S.number_in checked }
-    ensures place { at.new ≡ S.place_in checked }
-    ensures named { letter.new ≡ S.letter_in checked }
+pub fn hand_back<T>(answer: &Result<T, Refusal>, at: &mut u64, letter: &mut u8) -> u32
+    ensures number { result ≡ S.number_in answer.now }
+    ensures place { at.new ≡ S.place_in answer.now }
+    ensures named { letter.new ≡ S.letter_in answer.now }
 {
-    match checked {
-        Checked::Passed => {
+    match answer {
+        Ok(_) => {
             *at = 0;
             *letter = 0;
             0
         }
-        Checked::Refused(r) => {
+        Err(r) => {
             *at = r.at;
             *letter = r.letter;
-            r.number
+            r.cause.number()
         }
     }
 }
 
 // The refusal's number; 0 where there is none.
-pub fn number_in(checked: Checked) -> u32
-    ensures { result ≡ S.number_in checked }
+pub fn number_in<T>(answer: &Result<T, Refusal>) -> u32
+    ensures { result ≡ S.number_in answer.now }
 {
-    match checked {
-        Checked::Passed => 0,
-        Checked::Refused(r) => r.number,
+    match answer {
+        Ok(_) => 0,
+        Err(r) => r.cause.number(),
     }
 }
 
 // Five numbers as joints.
+#[tactic(auto, unfolding(crate::specs::Lent::joints_in))]
 pub fn joints_in(joints: &[f64]) -> Joints
     requires { length joints.now ≡ 5 }
     ensures { result ≡ S.joints_in joints.now }
@@ -51,6 +53,7 @@ pub fn joints_in(joints: &[f64]) -> Joints
 }
 
 // Writes three numbers from an index on.
+#[tactic(auto, unfolding(crate::specs::Lent::vector_over))]
 pub fn put_vector(v: Vec3, numbers: &mut [f64], at: usize)
     requires { at + 3 ≤ length numbers.old }
     ensures { numbers.new ≡ S.vector_over v numbers.old at }

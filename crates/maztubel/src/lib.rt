@@ -1,13 +1,14 @@
-// What C and Rust can call: `maztubel_c` exports each entry under its C name, and include/maztubel.h declares the same. No entry
-// has a `requires`: each answers every argument, with 0 or with a refusal's number, and its contract says what every lent number is
-// afterwards.
+// What C and Rust can call: `maztubel_c` exports each entry under its C name, and include/maztubel.h declares the same.
+// No entry has a `requires`: each answers every argument, with 0 or with a refusal's number, and its contract says what
+// every lent number is afterwards.
 //
-// Sine, cosine, arctangent and arccosine, of one argument and of slices. A slice form tests every argument before it writes the
-// first answer, so that a refusal leaves the slice as it was. The entries of a chain stand in chain_entries, those of the inverse map
-// in inverse_entries, that of the positioning profile in tooth_entries, those of a model in link_entries, the one that asks whether
-// links meet in meet_entries, that of a path in path_entries, those that divide in divide_entries, the one that quotes a division in
-// quote_entries, those of quotas in quota_entries, those of a job in job_entries, the one that writes a job in write_entries, those of
-// the extremes beside a path in extremes_entries; a crate above calls all of them from here.
+// Sine, cosine, arctangent and arccosine, of one argument and of slices. A slice form tests every argument before it
+// writes the first answer, so that a refusal leaves the slice as it was. The entries of a chain stand in chain_entries,
+// those of the inverse map in inverse_entries, that of the positioning profile in tooth_entries, those of a model in
+// link_entries, the one that asks whether links meet in meet_entries, that of a path in path_entries, those that divide
+// in divide_entries, the one that quotes a division in quote_entries, those of quotas in quota_entries, those of a job
+// in job_entries, the one that writes a job in write_entries, those of the extremes beside a path in extremes_entries;
+// a crate above calls all of them from here.
 #![tactic(auto)]
 
 mod chain_entries;
@@ -24,13 +25,13 @@ mod quote_entries;
 mod tooth_entries;
 mod write_entries;
 
-ghost use Rattle.std.specs.Prelude.{◌≡◌, ◌&&◌, map};
+ghost use Rattle.std.specs.Prelude.{◌≡◌, ◌&&◌, map, zip, Float, Option};
+ghost use Rattle.std.specs.List.{list_any};
 ghost use Rattle.trig.specs.Waves as Waves;
 ghost use Rattle.trig.specs.Arctangent as Arctangent;
 ghost use Rattle.trig.specs.Arccosine as Arccosine;
 ghost use Rattle.lists.specs.Rows.{paired};
 ghost use Rattle.maztubel.specs.Answers.{number_of, written_over, refuses, same_length, number_of_all, all_written_over, EachRight, EachPairRight};
-ghost use Rattle.maztubel.specs.Steps.{answer_of};
 
 pub use chain_entries::{maztubel_check_chain, maztubel_forward};
 pub use divide_entries::{maztubel_solve_and_divide, maztubel_subdivide_path};
@@ -44,8 +45,8 @@ pub use meet_entries::maztubel_links_meet;
 pub use path_entries::maztubel_solve_path;
 pub use quota_entries::{maztubel_divide_for, maztubel_grant};
 pub use quote_entries::maztubel_quote;
+use refusal::Cause;
 pub use tooth_entries::maztubel_choose_tooth;
-use trig::Answer;
 pub use write_entries::maztubel_write_job;
 
 pub fn maztubel_sine(x: f64, answer: &mut f64) -> u32
@@ -80,28 +81,31 @@ pub fn maztubel_arccosine(c: f64, answer: &mut f64) -> u32
     put(trig::arccosine(c), answer)
 }
 
+#[tactic(auto, using(trig::proofs::Laws::sine_answer))]
 pub fn maztubel_sines(xs: &[f64], answers: &mut [f64]) -> u32
     ensures number { result ≡ number_of_all (same_length xs.now answers.old) (map Waves.sine_of xs.now) }
     ensures lent { answers.new ≡ all_written_over result (map Waves.sine_of xs.now) answers.old }
     ensures right { EachRight Waves.SineAnswer Waves.sine_of xs.now }
 {
-    of_each(Function::Sine, xs, answers)
+    of_each::<Sines>(xs, answers)
 }
 
+#[tactic(auto, using(trig::proofs::Laws::cosine_answer))]
 pub fn maztubel_cosines(xs: &[f64], answers: &mut [f64]) -> u32
     ensures number { result ≡ number_of_all (same_length xs.now answers.old) (map Waves.cosine_of xs.now) }
     ensures lent { answers.new ≡ all_written_over result (map Waves.cosine_of xs.now) answers.old }
     ensures right { EachRight Waves.CosineAnswer Waves.cosine_of xs.now }
 {
-    of_each(Function::Cosine, xs, answers)
+    of_each::<Cosines>(xs, answers)
 }
 
+#[tactic(auto, using(trig::proofs::Laws::arccosine_answer))]
 pub fn maztubel_arccosines(cs: &[f64], answers: &mut [f64]) -> u32
     ensures number { result ≡ number_of_all (same_length cs.now answers.old) (map Arccosine.arccosine_of cs.now) }
     ensures lent { answers.new ≡ all_written_over result (map Arccosine.arccosine_of cs.now) answers.old }
     ensures right { EachRight Arccosine.ArccosineAnswer Arccosine.arccosine_of cs.now }
 {
-    of_each(Function::Arccosine, cs, answers)
+    of_each::<Arccosines>(cs, answers)
 }
 
 pub fn maztubel_arctangents(ys: &[f64], xs: &[f64], answers: &mut [f64]) -> u32
@@ -109,114 +113,118 @@ pub fn maztubel_arctangents(ys: &[f64], xs: &[f64], answers: &mut [f64]) -> u32
     ensures lent { answers.new ≡ all_written_over result (paired Arctangent.arctangent_of ys.now xs.now) answers.old }
     ensures right { EachPairRight Arctangent.ArctangentAnswer Arctangent.arctangent_of ys.now xs.now }
 {
-    let n = xs.len();
-    if ys.len() != n {
-        return refusal::LENGTHS_DIFFER;
+    if ys.len() != xs.len() || xs.len() != answers.len() {
+        return Cause::LengthsDiffer.number();
     }
-    if n != answers.len() {
-        return refusal::LENGTHS_DIFFER;
+    if any_pair_refused(ys, xs) {
+        return Cause::TooLarge.number();
     }
-    let mut i: usize = 0;
-    while i < n {
-        if pair_refused(ys[i], xs[i]) {
-            return refusal::TOO_LARGE;
-        }
-        i += 1;
-    }
-    let mut k: usize = 0;
-    while k < n {
-        answers[k] = written_over(trig::arctangent(ys[k], xs[k]), answers[k]);
-        k += 1;
+    for (i, answer) in answers.iter_mut().enumerate() {
+        *answer = trig::arctangent(ys[i], xs[i]).unwrap_or(*answer);
     }
     0
 }
 
-// The frame that a link is placed in: one path serves both entries.
-#[derive(Clone, Copy)]
-enum Seen {
-    World,
-    Part,
+// A function of one argument that `trig` answers: one pair of loops serves the slice forms of all.
+trait Answered {
+    ghost answer: { Float → Option Float };
+
+    fn answer(x: f64) -> Option<f64>
+        ensures { result ≡ answer x };
+
+    // Whether an argument is out of range, which takes no evaluation.
+    fn refused(x: f64) -> bool
+        ensures { result ≡ refuses (answer x) };
 }
 
-// The functions of one argument, so that one pair of loops serves their slice forms.
-#[derive(Clone, Copy)]
-enum Function {
-    Sine,
-    Cosine,
-    Arccosine,
+struct Sines;
+
+impl Answered for Sines {
+    ghost answer = { Waves.sine_of };
+
+    fn answer(x: f64) -> Option<f64> {
+        trig::sine(x)
+    }
+
+    #[tactic(auto, using(crate::proofs::Ranges::sine_ranges, crate::proofs::Ranges::cosine_ranges))]
+    fn refused(x: f64) -> bool {
+        !trig::served(x)
+    }
 }
 
-fn of_one(f: Function, x: f64) -> Answer
-    ensures { result ≡ answer_of f x }
+struct Cosines;
+
+impl Answered for Cosines {
+    ghost answer = { Waves.cosine_of };
+
+    fn answer(x: f64) -> Option<f64> {
+        trig::cosine(x)
+    }
+
+    #[tactic(auto, using(crate::proofs::Ranges::sine_ranges, crate::proofs::Ranges::cosine_ranges))]
+    fn refused(x: f64) -> bool {
+        !trig::served(x)
+    }
+}
+
+struct Arccosines;
+
+impl Answered for Arccosines {
+    ghost answer = { Arccosine.arccosine_of };
+
+    fn answer(x: f64) -> Option<f64> {
+        trig::arccosine(x)
+    }
+
+    #[tactic(auto, using(crate::proofs::Ranges::arccosine_ranges))]
+    fn refused(x: f64) -> bool {
+        !trig::cosine_range(x)
+    }
+}
+
+fn any_refused<F: Answered>(xs: &[f64]) -> bool
+    ensures { result ≡ list_any (λ x. refuses (F.answer x)) xs.now }
 {
-    match f {
-        Function::Sine => trig::sine(x),
-        Function::Cosine => trig::cosine(x),
-        Function::Arccosine => trig::arccosine(x),
-    }
+    xs.iter().any(|x| F::refused(*x))
 }
 
-fn of_each(f: Function, xs: &[f64], answers: &mut [f64]) -> u32
-    ensures number { result ≡ number_of_all (same_length xs.now answers.old) (map (answer_of f) xs.now) }
-    ensures lent { answers.new ≡ all_written_over result (map (answer_of f) xs.now) answers.old }
+fn of_each<F: Answered>(xs: &[f64], answers: &mut [f64]) -> u32
+    ensures number { result ≡ number_of_all (same_length xs.now answers.old) (map F.answer xs.now) }
+    ensures lent { answers.new ≡ all_written_over result (map F.answer xs.now) answers.old }
 {
-    let n = xs.len();
-    if n != answers.len() {
-        return refusal::LENGTHS_DIFFER;
+    if xs.len() != answers.len() {
+        return Cause::LengthsDiffer.number();
     }
-    let mut i: usize = 0;
-    while i < n {
-        if refused(f, xs[i]) {
-            return refusal::TOO_LARGE;
-        }
-        i += 1;
+    if any_refused::<F>(xs) {
+        return Cause::TooLarge.number();
     }
-    let mut k: usize = 0;
-    while k < n {
-        answers[k] = written_over(of_one(f, xs[k]), answers[k]);
-        k += 1;
+    for (i, answer) in answers.iter_mut().enumerate() {
+        *answer = F::answer(xs[i]).unwrap_or(*answer);
     }
     0
 }
 
 // Writes the answer where there is one, and gives its number.
-fn put(a: Answer, answer: &mut f64) -> u32
+fn put(a: Option<f64>, answer: &mut f64) -> u32
     ensures { (result ≡ number_of a) × (answer.new ≡ written_over a answer.old) }
 {
     match a {
-        Answer::Value(v) => {
+        Some(v) => {
             *answer = v;
             0
         }
-        Answer::OutOfRange => refusal::TOO_LARGE,
-    }
-}
-
-// Whether an argument is out of range, which takes no evaluation.
-fn refused(f: Function, x: f64) -> bool
-    ensures { result ≡ refuses (answer_of f x) }
-{
-    match f {
-        Function::Sine => !trig::served(x),
-        Function::Cosine => !trig::served(x),
-        Function::Arccosine => !trig::cosine_range(x),
+        None => Cause::TooLarge.number(),
     }
 }
 
 fn pair_refused(y: f64, x: f64) -> bool
     ensures { result ≡ refuses (Arctangent.arctangent_of y x) }
 {
-    if float::finite(y) {
-        return !float::finite(x);
-    }
-    true
+    !(float::finite(y) && float::finite(x))
 }
 
-fn written_over(a: Answer, before: f64) -> f64
-    ensures { result ≡ written_over a before }
+fn any_pair_refused(ys: &[f64], xs: &[f64]) -> bool
+    ensures { result ≡ list_any (λ p. refuses (Arctangent.arctangent_of p.0 p.1)) (zip ys.now xs.now) }
 {
-    match a {
-        Answer::Value(v) => v,
-        Answer::OutOfRange => before,
-    }
+    ys.iter().zip(xs).any(|(y, x)| pair_refused(*y, *x))
 }

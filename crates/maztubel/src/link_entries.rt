@@ -1,14 +1,15 @@
-// The entries of a machine model: its check, and the frame of what a carrier names, in the machine and in the part. Chain and model are handed over as bytes; place and letter are written by every call.
+// The entries of a machine model: its check, and the frame of what a carrier names, in the machine and in the part.
+// Chain and model are handed over as bytes; place and letter are written by every call.
 ghost use Rattle.std.specs.Prelude.{◌≡◌, length};
 ghost use Rattle.model.specs.Frame.{link_world, link_in_part};
 ghost use Rattle.maztubel.specs.Lent as Lent;
 ghost use Rattle.maztubel.specs.LinkEntries as S;
-ghost use Rattle.maztubel.specs.Steps.{link_seen};
+ghost use Rattle.maztubel.specs.Steps.{LinkAsked};
 
-use crate::Seen;
+use crate::inverse_entries::lengths_differ;
 use crate::lent::{hand_back, joints_in, put_vector};
-use chain::{ChainRead, Checked, Joints};
-use model::Placed;
+use chain::{Joints, Kinematics};
+use geometry::Rigid;
 use refusal::Refusal;
 
 pub fn maztubel_check_model(
@@ -23,7 +24,7 @@ pub fn maztubel_check_model(
     ensures named { letter.new ≡ Lent.letter_in (S.check_model_of name.now chain.now model.now) }
 {
     let checked = check_model(name, chain, model);
-    hand_back(checked, at, letter)
+    hand_back(&checked, at, letter)
 }
 
 pub fn maztubel_link_world(
@@ -36,15 +37,16 @@ pub fn maztubel_link_world(
     at: &mut u64,
     letter: &mut u8,
 ) -> u32
-    ensures number { result ≡ Lent.number_in (S.placed_check (S.link_of link_world name.now chain.now model.now joints.now carrier.now (length frame.old))) }
-    ensures place { at.new ≡ Lent.place_in (S.placed_check (S.link_of link_world name.now chain.now model.now joints.now carrier.now (length frame.old))) }
-    ensures named { letter.new ≡ Lent.letter_in (S.placed_check (S.link_of link_world name.now chain.now model.now joints.now carrier.now (length frame.old))) }
+    ensures number { result ≡ Lent.number_in (S.link_of link_world name.now chain.now model.now joints.now carrier.now (length frame.old)) }
+    ensures place { at.new ≡ Lent.place_in (S.link_of link_world name.now chain.now model.now joints.now carrier.now (length frame.old)) }
+    ensures named { letter.new ≡ Lent.letter_in (S.link_of link_world name.now chain.now model.now joints.now carrier.now (length frame.old)) }
     ensures lent { frame.new ≡ S.frame_over (S.link_of link_world name.now chain.now model.now joints.now carrier.now (length frame.old)) frame.old }
 {
     let room = frame.len();
-    let answer = link_of(Seen::World, name, chain, model, joints, carrier, room);
+    let place = |k, j| model::link_world(name, k, model, j, carrier);
+    let answer = link_of(place, chain, joints, room);
     put_frame(answer, frame);
-    hand_back(placed_check(answer), at, letter)
+    hand_back(&answer, at, letter)
 }
 
 pub fn maztubel_link_in_part(
@@ -57,84 +59,48 @@ pub fn maztubel_link_in_part(
     at: &mut u64,
     letter: &mut u8,
 ) -> u32
-    ensures number { result ≡ Lent.number_in (S.placed_check (S.link_of link_in_part name.now chain.now model.now joints.now carrier.now (length frame.old))) }
-    ensures place { at.new ≡ Lent.place_in (S.placed_check (S.link_of link_in_part name.now chain.now model.now joints.now carrier.now (length frame.old))) }
-    ensures named { letter.new ≡ Lent.letter_in (S.placed_check (S.link_of link_in_part name.now chain.now model.now joints.now carrier.now (length frame.old))) }
+    ensures number { result ≡ Lent.number_in (S.link_of link_in_part name.now chain.now model.now joints.now carrier.now (length frame.old)) }
+    ensures place { at.new ≡ Lent.place_in (S.link_of link_in_part name.now chain.now model.now joints.now carrier.now (length frame.old)) }
+    ensures named { letter.new ≡ Lent.letter_in (S.link_of link_in_part name.now chain.now model.now joints.now carrier.now (length frame.old)) }
     ensures lent { frame.new ≡ S.frame_over (S.link_of link_in_part name.now chain.now model.now joints.now carrier.now (length frame.old)) frame.old }
 {
     let room = frame.len();
-    let answer = link_of(Seen::Part, name, chain, model, joints, carrier, room);
+    let place = |k, j| model::link_in_part(name, k, model, j, carrier);
+    let answer = link_of(place, chain, joints, room);
     put_frame(answer, frame);
-    hand_back(placed_check(answer), at, letter)
+    hand_back(&answer, at, letter)
 }
 
-fn check_model(name: &[u8], chain: &[u8], model: &[u8]) -> Checked
+#[tactic(auto, unfolding(crate::specs::LinkEntries::check_model_of))]
+fn check_model(name: &[u8], chain: &[u8], model: &[u8]) -> Result<(), Refusal>
     ensures { result ≡ S.check_model_of name.now chain.now model.now }
 {
-    let read = chain::read_chain(chain);
-    match read {
-        ChainRead::Refused(r) => Checked::Refused(r),
-        ChainRead::Chain(k) => model::check_model(name, k, model),
-    }
+    model::check_model(name, chain::read_chain(chain)?, model)
 }
 
-fn link_of(
-    seen: Seen,
-    name: &[u8],
+// The frame that `place` finds, of the chain and the joints that are lent, or the first refusal.
+fn link_of<F: FnOnce(Kinematics, Joints) -> Result<Rigid, Refusal>>(
+    place: F,
     chain: &[u8],
-    model: &[u8],
     joints: &[f64],
-    carrier: &[u8],
     room: usize,
-) -> Placed
-    ensures { result ≡ S.link_of (link_seen seen) name.now chain.now model.now joints.now carrier.now room }
+) -> Result<Rigid, Refusal>
+    requires { F.IsAlwaysCallable place }
+    ensures { LinkAsked (F.post place) chain.now joints.now room result }
 {
-    if joints.len() == 5 {
-        if room == 12 {
-            let j = joints_in(joints);
-            return link_read(seen, chain::read_chain(chain), name, model, j, carrier);
-        }
+    if joints.len() == 5 && room == 12 {
+        let k = chain::read_chain(chain)?;
+        return place(k, joints_in(joints));
     }
-    Placed::Refused(Refusal {
-        number: refusal::LENGTHS_DIFFER,
-        at: 0,
-        letter: 0,
-    })
-}
-
-fn link_read(
-    seen: Seen,
-    read: ChainRead,
-    name: &[u8],
-    model: &[u8],
-    j: Joints,
-    carrier: &[u8],
-) -> Placed
-    ensures { result ≡ S.link_read (link_seen seen) read name.now model.now j carrier.now }
-{
-    match read {
-        ChainRead::Refused(r) => Placed::Refused(r),
-        ChainRead::Chain(k) => match seen {
-            Seen::World => model::link_world(name, k, model, j, carrier),
-            Seen::Part => model::link_in_part(name, k, model, j, carrier),
-        },
-    }
-}
-
-fn placed_check(answer: Placed) -> Checked
-    ensures { result ≡ S.placed_check answer }
-{
-    match answer {
-        Placed::At(_) => Checked::Passed,
-        Placed::Refused(r) => Checked::Refused(r),
-    }
+    Err(lengths_differ())
 }
 
 // Writes a frame where there is one, and twelve numbers' room for it.
-fn put_frame(answer: Placed, frame: &mut [f64])
+#[tactic(auto, using(crate::proofs::Written::frame_written))]
+fn put_frame(answer: Result<Rigid, Refusal>, frame: &mut [f64])
     ensures { frame.new ≡ S.frame_over answer frame.old }
 {
-    let Placed::At(r) = answer else {
+    let Ok(r) = answer else {
         return;
     };
     if frame.len() == 12 {

@@ -1,4 +1,5 @@
-// The entry of a path: joints for every pose, in a lent output. What is refused before the first pose keeps it, a refusal at a pose clears it.
+// The entry of a path: joints for every pose, in a lent output. What is refused before the first pose keeps it, a
+// refusal at a pose clears it.
 ghost use Rattle.std.specs.Prelude.{◌≡◌, length};
 ghost use Rattle.chain.specs.ChainBytes.{read_chain};
 ghost use Rattle.path.specs.Solving as Path;
@@ -6,9 +7,10 @@ ghost use Rattle.maztubel.specs.Lent as Lent;
 ghost use Rattle.maztubel.specs.PathEntries as S;
 
 use crate::lent::{hand_back, joints_in};
-use chain::{ChainRead, Checked};
-use path::Start;
+use chain::Joints;
+use refusal::{Cause, Refusal};
 
+#[tactic(auto, using(crate::proofs::Promised::promised))]
 pub fn maztubel_solve_path(
     chain: &[u8],
     poses: &[f64],
@@ -25,36 +27,32 @@ pub fn maztubel_solve_path(
     ensures served { S.Promised (read_chain chain.now) (S.solve_path_of chain.now poses.now start.now cone (length joints.old)) }
 {
     let checked = solve_path_of(chain, poses, start, cone, joints);
-    hand_back(checked, at, letter)
+    hand_back(&checked, at, letter)
 }
 
+#[tactic(auto, unfolding(crate::specs::PathEntries::start_good))]
 pub fn start_good(numbers: usize) -> bool
     ensures { result ≡ S.start_good numbers }
 {
-    if numbers == 0 {
-        return true;
-    }
-    numbers == 5
+    numbers == 0 || numbers == 5
 }
 
 // The records are whole, and the start is five numbers or none.
+#[tactic(auto, unfolding(crate::specs::PathEntries::lengths_good))]
 fn lengths_good(poses: usize, joints: usize, start: usize) -> bool
     ensures { result ≡ S.lengths_good poses joints start }
 {
-    if path::whole_records(poses, joints) {
-        return start_good(start);
-    }
-    false
+    path::whole_records(poses, joints) && start_good(start)
 }
 
-pub fn start_in(start: &[f64]) -> Start
+#[tactic(auto, unfolding(crate::specs::PathEntries::start_in))]
+pub fn start_in(start: &[f64]) -> Option<Joints>
     ensures { result ≡ S.start_in start.now }
 {
     if start.len() == 5 {
-        let j = joints_in(start);
-        return Start::From(j);
+        return Some(joints_in(start));
     }
-    Start::AtZero
+    None
 }
 
 fn solve_path_of(
@@ -63,17 +61,13 @@ fn solve_path_of(
     start: &[f64],
     cone: f64,
     joints: &mut [f64],
-) -> Checked
+) -> Result<(), Refusal>
     ensures checked { result ≡ Path.checked_in (S.solve_path_of chain.now poses.now start.now cone (length joints.old)) }
     ensures lent { joints.new ≡ Path.path_over (S.solve_path_of chain.now poses.now start.now cone (length joints.old)) joints.old }
 {
     if !lengths_good(poses.len(), joints.len(), start.len()) {
-        return chain::demand(false, refusal::LENGTHS_DIFFER, 0);
+        return Err(Refusal::new(Cause::LengthsDiffer, 0));
     }
-    let read = chain::read_chain(chain);
-    let begin = start_in(start);
-    match read {
-        ChainRead::Refused(r) => Checked::Refused(r),
-        ChainRead::Chain(k) => path::solve_path(k, poses, begin, cone, joints),
-    }
+    let k = chain::read_chain(chain)?;
+    path::solve_path(k, poses, start_in(start), cone, joints)
 }

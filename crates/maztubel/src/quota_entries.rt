@@ -1,5 +1,5 @@
-// The entries of quotas: a grant to a shop, and a division that is charged to one. Balances change where a call succeeds, and nowhere
-// else.
+// The entries of quotas: a grant to a shop, and a division that is charged to one. Balances change where a call
+// succeeds, and nowhere else.
 ghost use Rattle.std.specs.Prelude.{◌≡◌, length};
 ghost use Rattle.chain.specs.ChainBytes.{read_chain};
 ghost use Rattle.divide.specs.Subdividing.{division_in, poses_left, joints_left};
@@ -11,15 +11,14 @@ ghost use Rattle.maztubel.specs.QuotaEntries as S;
 
 use crate::divide_entries::{hand_over, subdivide_of};
 use crate::lent::number_in;
-use chain::Checked;
-use divide::Division;
+use divide::DivisionError;
 
 pub fn maztubel_grant(balances: &mut [u64], shop: u64, amount: u64) -> u32
     ensures number { result ≡ number_in (grant_check balances.old shop amount) }
     ensures balances { balances.new ≡ after balances.old (Grant shop amount) }
 {
     let checked = quota::grant(balances, shop, amount);
-    number_in(checked)
+    number_in(&checked)
 }
 
 // In each clause `plain` is what maztubel_subdivide_path answers to the same arguments.
@@ -73,7 +72,7 @@ fn charged_of(
     axis: f64,
     out_poses: &mut [f64],
     out_joints: &mut [f64],
-) -> Division
+) -> Result<u64, DivisionError>
     ensures answer { let plain = subdivide_of chain.now (tolerances chord axis) poses.now joints.now (length out_poses.old) (length out_joints.old) in
         result ≡ division_in (charged_division balances.old shop plain) }
     ensures poses { let plain = subdivide_of chain.now (tolerances chord axis) poses.now joints.now (length out_poses.old) (length out_joints.old) in
@@ -85,10 +84,7 @@ fn charged_of(
     ensures price { let plain = subdivide_of chain.now (tolerances chord axis) poses.now joints.now (length out_poses.old) (length out_joints.old) in
         S.ChargedPromise (read_chain chain.now) balances.old shop plain (tolerances chord axis) poses.now joints.now (length out_poses.old) (length out_joints.old) (division_in (charged_division balances.old shop plain)) out_poses.new out_joints.new }
 {
-    let checked = quota::shop_check(balances.len(), shop);
-    if let Checked::Refused(r) = checked {
-        return Division::Refused(r);
-    }
+    quota::shop_check(balances.len(), shop)?;
     let said = subdivide_of(chain, poses, joints, chord, axis, out_poses, out_joints);
     quota::settle(said, balances, shop as usize, out_poses, out_joints)
 }

@@ -7,11 +7,11 @@ ghost use Rattle.maztubel.specs.DivideEntries.{tolerances};
 ghost use Rattle.maztubel.specs.QuoteEntries as S;
 
 use crate::lent::hand_back;
-use chain::{ChainRead, Checked};
 use middle::Tolerances;
-use quote::{Figures, Quote};
-use refusal::Refusal;
+use quote::{Figures, QuoteError};
+use refusal::{Cause, Refusal};
 
+#[tactic(auto, using(crate::proofs::QuotesFor::quote_promised))]
 pub fn maztubel_quote(
     chain: &[u8],
     poses: &[f64],
@@ -46,16 +46,14 @@ pub fn maztubel_quote(
     *inserted = figures.inserted;
     *poses_out = figures.poses;
     *evaluations = figures.evaluations;
-    hand_back(refusal_in(answer), at, letter)
+    hand_back(&refusal_in(answer), at, letter)
 }
 
+#[tactic(auto, unfolding(crate::specs::QuoteEntries::quote_whole))]
 fn quote_whole(poses: usize, joints: usize, room_joints: usize, room_tips: usize) -> bool
     ensures { result ≡ S.quote_whole poses joints room_joints room_tips }
 {
-    if path::whole_records(poses, joints) {
-        return quote::scratch_whole(room_joints, room_tips);
-    }
-    false
+    path::whole_records(poses, joints) && quote::scratch_whole(room_joints, room_tips)
 }
 
 fn quote_of(
@@ -66,7 +64,7 @@ fn quote_of(
     axis: f64,
     scratch_joints: &mut [f64],
     scratch_tips: &mut [f64],
-) -> Quote
+) -> Result<Figures, QuoteError>
     ensures answer { result ≡ S.quote_of chain.now (tolerances chord axis) poses.now joints.now (length scratch_joints.old) (length scratch_tips.old) }
     ensures joints { scratch_joints.new ≡ scratch_left result scratch_joints.old }
     ensures tips { scratch_tips.new ≡ scratch_left result scratch_tips.old }
@@ -77,45 +75,27 @@ fn quote_of(
         scratch_joints.len(),
         scratch_tips.len(),
     ) {
-        return Quote::Refused(Refusal {
-            number: refusal::LENGTHS_DIFFER,
-            at: 0,
-            letter: 0,
-        });
+        return Err(QuoteError::Refused(Refusal::new(Cause::LengthsDiffer, 0)));
     }
-    let read = chain::read_chain(chain);
+    let k = chain::read_chain(chain)?;
     let tol = Tolerances { chord, axis };
-    match read {
-        ChainRead::Refused(r) => Quote::Refused(r),
-        ChainRead::Chain(k) => quote::quote_path(
-            k,
-            tol,
-            poses,
-            joints,
-            scratch_joints,
-            scratch_tips,
-        ),
-    }
+    quote::quote_path(k, tol, poses, joints, scratch_joints, scratch_tips)
 }
 
-fn refused_by(number: u32) -> Checked
-    ensures { result ≡ S.refused_by number }
+fn refused_by(cause: Cause) -> Result<(), Refusal>
+    ensures { result ≡ S.refused_by cause }
 {
-    Checked::Refused(Refusal {
-        number,
-        at: 0,
-        letter: 0,
-    })
+    Err(Refusal::new(cause, 0))
 }
 
-fn refusal_in(answer: Quote) -> Checked
+fn refusal_in(answer: Result<Figures, QuoteError>) -> Result<(), Refusal>
     ensures { result ≡ S.refusal_in answer }
 {
     match answer {
-        Quote::Refused(r) => Checked::Refused(r),
-        Quote::NoSpace => refused_by(refusal::NO_SPACE),
-        Quote::TooMany(_) => refused_by(refusal::TOO_MANY_INSERTIONS),
-        Quote::Served(_) => Checked::Passed,
+        Ok(_) => Ok(()),
+        Err(QuoteError::Refused(r)) => Err(r),
+        Err(QuoteError::NoSpace) => refused_by(Cause::NoSpace),
+        Err(QuoteError::TooMany(_)) => refused_by(Cause::TooManyInsertions),
     }
 }
 
@@ -129,13 +109,12 @@ fn count_alone(inserted: u64) -> Figures
     }
 }
 
-fn figures_in(answer: Quote) -> Figures
+fn figures_in(answer: Result<Figures, QuoteError>) -> Figures
     ensures { result ≡ S.figures_in answer }
 {
     match answer {
-        Quote::Refused(_) => count_alone(0),
-        Quote::NoSpace => count_alone(0),
-        Quote::TooMany(n) => count_alone(n),
-        Quote::Served(figures) => figures,
+        Ok(figures) => figures,
+        Err(QuoteError::TooMany(n)) => count_alone(n),
+        Err(QuoteError::Refused(_) | QuoteError::NoSpace) => count_alone(0),
     }
 }

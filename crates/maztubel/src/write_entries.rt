@@ -8,10 +8,8 @@ ghost use Rattle.maztubel.specs.DivideEntries.{tolerances};
 ghost use Rattle.maztubel.specs.WriteEntries as S;
 
 use crate::lent::hand_back;
-use chain::{ChainRead, Checked};
 use middle::Tolerances;
-use refusal::Refusal;
-use writer::Written;
+use refusal::{Cause, Refusal};
 
 pub fn maztubel_write_job(
     chain: &[u8],
@@ -24,16 +22,16 @@ pub fn maztubel_write_job(
     at: &mut u64,
     letter: &mut u8,
 ) -> u32
-    ensures number { result ≡ Lent.number_in (S.written_check (S.write_of chain.now poses.now cone (tolerances chord axis) (ListN.length job.old))) }
+    ensures number { result ≡ Lent.number_in (S.write_of chain.now poses.now cone (tolerances chord axis) (ListN.length job.old)) }
     ensures length { length.new ≡ S.length_in (S.write_of chain.now poses.now cone (tolerances chord axis) (ListN.length job.old)) }
-    ensures place { at.new ≡ Lent.place_in (S.written_check (S.write_of chain.now poses.now cone (tolerances chord axis) (ListN.length job.old))) }
-    ensures named { letter.new ≡ Lent.letter_in (S.written_check (S.write_of chain.now poses.now cone (tolerances chord axis) (ListN.length job.old))) }
+    ensures place { at.new ≡ Lent.place_in (S.write_of chain.now poses.now cone (tolerances chord axis) (ListN.length job.old)) }
+    ensures named { letter.new ≡ Lent.letter_in (S.write_of chain.now poses.now cone (tolerances chord axis) (ListN.length job.old)) }
     ensures lent { job.new ≡ S.job_left chain.now poses.now cone (tolerances chord axis) job.old }
     ensures promise { S.WritePromise (read_chain chain.now) poses.now cone (tolerances chord axis) (ListN.length job.old) }
 {
     let written = write_of(chain, poses, cone, chord, axis, job);
     *length = length_in(written);
-    hand_back(written_check(written), at, letter)
+    hand_back(&written, at, letter)
 }
 
 fn write_of(
@@ -43,40 +41,24 @@ fn write_of(
     chord: f64,
     axis: f64,
     job: &mut [u8],
-) -> Written
+) -> Result<usize, Refusal>
     ensures answer { result ≡ S.write_of chain.now poses.now cone (tolerances chord axis) (ListN.length job.old) }
     ensures lent { job.new ≡ S.job_left chain.now poses.now cone (tolerances chord axis) job.old }
     ensures promise { S.WritePromise (read_chain chain.now) poses.now cone (tolerances chord axis) (ListN.length job.old) }
 {
     if poses.len() % 6 != 0 {
-        return Written::Refused(Refusal {
-            number: refusal::LENGTHS_DIFFER,
-            at: 0,
-            letter: 0,
-        });
+        return Err(Refusal::new(Cause::LengthsDiffer, 0));
     }
-    let read = chain::read_chain(chain);
+    let k = chain::read_chain(chain)?;
     let tol = Tolerances { chord, axis };
-    match read {
-        ChainRead::Refused(r) => Written::Refused(r),
-        ChainRead::Chain(k) => writer::write_job(k, poses, cone, tol, job),
-    }
+    writer::write_job(k, poses, cone, tol, job)
 }
 
-fn written_check(written: Written) -> Checked
-    ensures { result ≡ S.written_check written }
-{
-    match written {
-        Written::Bytes(_) => Checked::Passed,
-        Written::Refused(r) => Checked::Refused(r),
-    }
-}
-
-fn length_in(written: Written) -> u64
+fn length_in(written: Result<usize, Refusal>) -> u64
     ensures { result ≡ S.length_in written }
 {
     match written {
-        Written::Bytes(n) => n as u64,
-        Written::Refused(_) => 0,
+        Ok(n) => n as u64,
+        Err(_) => 0,
     }
 }

@@ -21,9 +21,9 @@ pub extern "C" fn maztubel_forward(
     at: &mut u64,
     letter: &mut u8,
 ) -> u32
-    ensures number { result ≡ Lent.number_in (S.posed_check (S.forward_of chain.now joints.now tool_length (length pose.old))) }
-    ensures place { at.new ≡ Lent.place_in (S.posed_check (S.forward_of chain.now joints.now tool_length (length pose.old))) }
-    ensures named { letter.new ≡ Lent.letter_in (S.posed_check (S.forward_of chain.now joints.now tool_length (length pose.old))) }
+    ensures number { result ≡ Lent.number_in (S.forward_of chain.now joints.now tool_length (length pose.old)) }
+    ensures place { at.new ≡ Lent.place_in (S.forward_of chain.now joints.now tool_length (length pose.old)) }
+    ensures named { letter.new ≡ Lent.letter_in (S.forward_of chain.now joints.now tool_length (length pose.old)) }
     ensures lent { pose.new ≡ S.pose_over (S.forward_of chain.now joints.now tool_length (length pose.old)) pose.old }
 {
     maztubel::maztubel_forward(chain, joints, tool_length, pose, at, letter)

@@ -37,7 +37,7 @@ pub extern "C" fn maztubel_first_above(
     found: &mut u64,
     index: &mut u64,
 ) -> u32
-    ensures number { result ≡ Lent.number_in (S.asked_check (Entries.ask_of joints.now summary.now rotary angle)) }
+    ensures number { result ≡ Lent.number_in (Entries.ask_of joints.now summary.now rotary angle) }
     ensures found { found.new ≡ S.found_over (Entries.ask_of joints.now summary.now rotary angle) found.old }
     ensures index { index.new ≡ S.index_over (Entries.ask_of joints.now summary.now rotary angle) index.old }
     ensures read { Entries.AsRead joints.now summary.now rotary angle (Entries.ask_of joints.now summary.now rotary angle) }

@@ -14,9 +14,9 @@ pub extern "C" fn maztubel_inverse(
     at: &mut u64,
     letter: &mut u8,
 ) -> u32
-    ensures number { result ≡ Lent.number_in (S.inverse_of chain.now pose.now tool_length hint.now (length list.old)).checked }
-    ensures place { at.new ≡ Lent.place_in (S.inverse_of chain.now pose.now tool_length hint.now (length list.old)).checked }
-    ensures named { letter.new ≡ Lent.letter_in (S.inverse_of chain.now pose.now tool_length hint.now (length list.old)).checked }
+    ensures number { result ≡ Lent.number_in (S.inverse_of chain.now pose.now tool_length hint.now (length list.old)) }
+    ensures place { at.new ≡ Lent.place_in (S.inverse_of chain.now pose.now tool_length hint.now (length list.old)) }
+    ensures named { letter.new ≡ Lent.letter_in (S.inverse_of chain.now pose.now tool_length hint.now (length list.old)) }
     ensures lent { list.new ≡ S.list_over (S.inverse_of chain.now pose.now tool_length hint.now (length list.old)) list.old }
     ensures counted { count.new ≡ S.count_over (S.inverse_of chain.now pose.now tool_length hint.now (length list.old)) count.old }
 {
@@ -34,9 +34,9 @@ pub extern "C" fn maztubel_choose(
     at: &mut u64,
     letter: &mut u8,
 ) -> u32
-    ensures number { result ≡ Lent.number_in (S.chosen_check (S.choose_of chain.now pose.now tool_length choice hint.now (length joints.old))) }
-    ensures place { at.new ≡ Lent.place_in (S.chosen_check (S.choose_of chain.now pose.now tool_length choice hint.now (length joints.old))) }
-    ensures named { letter.new ≡ Lent.letter_in (S.chosen_check (S.choose_of chain.now pose.now tool_length choice hint.now (length joints.old))) }
+    ensures number { result ≡ Lent.number_in (S.choose_of chain.now pose.now tool_length choice hint.now (length joints.old)) }
+    ensures place { at.new ≡ Lent.place_in (S.choose_of chain.now pose.now tool_length choice hint.now (length joints.old)) }
+    ensures named { letter.new ≡ Lent.letter_in (S.choose_of chain.now pose.now tool_length choice hint.now (length joints.old)) }
     ensures lent { joints.new ≡ S.joints_over (S.choose_of chain.now pose.now tool_length choice hint.now (length joints.old)) joints.old }
 {
     maztubel::maztubel_choose(chain, pose, tool_length, choice, hint, joints, at, letter)

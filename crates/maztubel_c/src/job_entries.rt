@@ -18,8 +18,8 @@ pub extern "C" fn maztubel_read_job(
     axis: &mut f64,
     at: &mut u64,
 ) -> u32
-    ensures number { result ≡ Lent.number_in (S.read_check (read_job job.now)) }
-    ensures place { at.new ≡ Lent.place_in (S.read_check (read_job job.now)) }
+    ensures number { result ≡ Lent.number_in (read_job job.now) }
+    ensures place { at.new ≡ Lent.place_in (read_job job.now) }
     ensures chain { chain_at.new ≡ S.chain_over (read_job job.now) chain_at.old }
     ensures length { chain_length.new ≡ S.length_over (read_job job.now) chain_length.old }
     ensures poses { poses_at.new ≡ S.poses_over (read_job job.now) poses_at.old }
@@ -60,9 +60,9 @@ pub extern "C" fn maztubel_cable_number(
     at: &mut u64,
     letter: &mut u8,
 ) -> u32
-    ensures number { result ≡ Lent.number_in (S.cable_check (S.cable_of chain.now joints.now rotary)) }
-    ensures place { at.new ≡ Lent.place_in (S.cable_check (S.cable_of chain.now joints.now rotary)) }
-    ensures named { letter.new ≡ Lent.letter_in (S.cable_check (S.cable_of chain.now joints.now rotary)) }
+    ensures number { result ≡ Lent.number_in (S.cable_of chain.now joints.now rotary) }
+    ensures place { at.new ≡ Lent.place_in (S.cable_of chain.now joints.now rotary) }
+    ensures named { letter.new ≡ Lent.letter_in (S.cable_of chain.now joints.now rotary) }
     ensures lent { number.new ≡ S.number_over (S.cable_of chain.now joints.now rotary) number.old }
     ensures largest { S.CablePromise (read_chain chain.now) joints.now rotary (S.cable_of chain.now joints.now rotary) }
 {

@@ -1,6 +1,7 @@
-// The static library libmaztubel.a: each entry of `maztubel` under its C name, with the contract that it has there. C and Rust call
-// these, and include/maztubel.h declares them; a crate of this repository calls those of `maztubel`. Sine, cosine, arctangent and
-// arccosine stand here, every other entry in the file that is named as its file in `maztubel`.
+// The static library libmaztubel.a: each entry of `maztubel` under its C name, with the contract that it has there. C
+// and Rust call these, and include/maztubel.h declares them; a crate of this repository calls those of `maztubel`.
+// Sine, cosine, arctangent and arccosine stand here, every other entry in the file that is named as its file in
+// `maztubel`.
 #![tactic(auto)]
 
 mod chain_entries;

@@ -30,9 +30,9 @@ pub extern "C" fn maztubel_link_world(
     at: &mut u64,
     letter: &mut u8,
 ) -> u32
-    ensures number { result ≡ Lent.number_in (S.placed_check (S.link_of link_world name.now chain.now model.now joints.now carrier.now (length frame.old))) }
-    ensures place { at.new ≡ Lent.place_in (S.placed_check (S.link_of link_world name.now chain.now model.now joints.now carrier.now (length frame.old))) }
-    ensures named { letter.new ≡ Lent.letter_in (S.placed_check (S.link_of link_world name.now chain.now model.now joints.now carrier.now (length frame.old))) }
+    ensures number { result ≡ Lent.number_in (S.link_of link_world name.now chain.now model.now joints.now carrier.now (length frame.old)) }
+    ensures place { at.new ≡ Lent.place_in (S.link_of link_world name.now chain.now model.now joints.now carrier.now (length frame.old)) }
+    ensures named { letter.new ≡ Lent.letter_in (S.link_of link_world name.now chain.now model.now joints.now carrier.now (length frame.old)) }
     ensures lent { frame.new ≡ S.frame_over (S.link_of link_world name.now chain.now model.now joints.now carrier.now (length frame.old)) frame.old }
 {
     maztubel::maztubel_link_world(name, chain, model, joints, carrier, frame, at, letter)
@@ -49,9 +49,9 @@ pub extern "C" fn maztubel_link_in_part(
     at: &mut u64,
     letter: &mut u8,
 ) -> u32
-    ensures number { result ≡ Lent.number_in (S.placed_check (S.link_of link_in_part name.now chain.now model.now joints.now carrier.now (length frame.old))) }
-    ensures place { at.new ≡ Lent.place_in (S.placed_check (S.link_of link_in_part name.now chain.now model.now joints.now carrier.now (length frame.old))) }
-    ensures named { letter.new ≡ Lent.letter_in (S.placed_check (S.link_of link_in_part name.now chain.now model.now joints.now carrier.now (length frame.old))) }
+    ensures number { result ≡ Lent.number_in (S.link_of link_in_part name.now chain.now model.now joints.now carrier.now (length frame.old)) }
+    ensures place { at.new ≡ Lent.place_in (S.link_of link_in_part name.now chain.now model.now joints.now carrier.now (length frame.old)) }
+    ensures named { letter.new ≡ Lent.letter_in (S.link_of link_in_part name.now chain.now model.now joints.now carrier.now (length frame.old)) }
     ensures lent { frame.new ≡ S.frame_over (S.link_of link_in_part name.now chain.now model.now joints.now carrier.now (length frame.old)) frame.old }
 {
     maztubel::maztubel_link_in_part(name, chain, model, joints, carrier, frame, at, letter)

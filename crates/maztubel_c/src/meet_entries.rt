@@ -18,9 +18,9 @@ pub extern "C" fn maztubel_links_meet(
     letter: &mut u8,
 ) -> u32
     ensures { let answer = S.meet_of name.now chain.now model.now joints.now in
-        (result ≡ Lent.number_in (S.meeting_refusal answer))
-        × (at.new ≡ Lent.place_in (S.meeting_refusal answer))
-        × (letter.new ≡ Lent.letter_in (S.meeting_refusal answer))
+        (result ≡ Lent.number_in answer)
+        × (at.new ≡ Lent.place_in answer)
+        × (letter.new ≡ Lent.letter_in answer)
         × (found.new ≡ S.found_over answer found.old)
         × (pose.new ≡ S.pose_over answer pose.old)
         × (first.new ≡ S.first_over answer first.old)

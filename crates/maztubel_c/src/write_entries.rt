@@ -18,10 +18,10 @@ pub extern "C" fn maztubel_write_job(
     at: &mut u64,
     letter: &mut u8,
 ) -> u32
-    ensures number { result ≡ Lent.number_in (S.written_check (S.write_of chain.now poses.now cone (tolerances chord axis) (ListN.length job.old))) }
+    ensures number { result ≡ Lent.number_in (S.write_of chain.now poses.now cone (tolerances chord axis) (ListN.length job.old)) }
     ensures length { length.new ≡ S.length_in (S.write_of chain.now poses.now cone (tolerances chord axis) (ListN.length job.old)) }
-    ensures place { at.new ≡ Lent.place_in (S.written_check (S.write_of chain.now poses.now cone (tolerances chord axis) (ListN.length job.old))) }
-    ensures named { letter.new ≡ Lent.letter_in (S.written_check (S.write_of chain.now poses.now cone (tolerances chord axis) (ListN.length job.old))) }
+    ensures place { at.new ≡ Lent.place_in (S.write_of chain.now poses.now cone (tolerances chord axis) (ListN.length job.old)) }
+    ensures named { letter.new ≡ Lent.letter_in (S.write_of chain.now poses.now cone (tolerances chord axis) (ListN.length job.old)) }
     ensures lent { job.new ≡ S.job_left chain.now poses.now cone (tolerances chord axis) job.old }
     ensures promise { S.WritePromise (read_chain chain.now) poses.now cone (tolerances chord axis) (ListN.length job.old) }
 {

@@ -1,6 +1,5 @@
 pub mod Filling
-pub mod Putting
 pub mod Seeking
 pub mod Passing
-pub mod Classes
+pub mod CarrierKinds
 pub mod Promises

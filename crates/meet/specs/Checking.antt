@@ -1,9 +1,9 @@
 -- The checks of the question, in order: whole joint sets, the model's full check, finite joints, sizes.
 use Rattle.std.specs.Prelude.{Bool, ◌&&◌, List, [], ◌∷◌, ℕ, ◌+◌, ◌%◌, eqb, leb, length, Float}
 use Rattle.lists.specs.Search.{all}
-use Rattle.refusal.specs.Numbers.{lengths_differ, not_finite, too_large}
+use Rattle.refusal.specs.declared.Cause.{Cause}
 use Rattle.geometry.specs.declared.Vec3.{Vec3}
-use Rattle.chain.specs.declared.Checked.{Checked}
+use Rattle.chain.specs.Checked.{Checked}
 use Rattle.chain.specs.declared.Kinematics.{Kinematics}
 use Rattle.chain.specs.Check.{demand, first_refusal, within, all_within, longest, chain_within, joints_finite, joints_within}
 use Rattle.model.specs.declared.Link.{Link}
@@ -39,8 +39,8 @@ meeting_sizes k bytes joints = chain_within k && all joints_within (sets_in join
 unfoldable pub meeting_check : List ℕ → Kinematics → List ℕ → List Float → Checked
 meeting_check name k bytes joints =
     first_refusal
-    (demand (eqb (length joints % 5) 0) lengths_differ 0
+    (demand (eqb (length joints % 5) 0) Cause.LengthsDiffer 0
     ∷ full_check name k bytes
-    ∷ demand (all joints_finite (sets_in joints)) not_finite 0
-    ∷ demand (meeting_sizes k bytes joints) too_large 0
+    ∷ demand (all joints_finite (sets_in joints)) Cause.NotFinite 0
+    ∷ demand (meeting_sizes k bytes joints) Cause.TooLarge 0
     ∷ [])

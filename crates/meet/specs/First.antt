@@ -1,8 +1,8 @@
 -- What the answer promises: the pair meets there, and no pair does that comes before it by pose, then by the earlier
 -- link, then by the later; or no pair does at any pose; or the first refusal. An element by its index is the same with
 -- every default.
-use Rattle.std.specs.Prelude.{Bool, true, false, List, ◌≡◌, ℕ, ◌<◌, length, get_or, Float}
-use Rattle.chain.specs.declared.Checked.TheVariants as Checked
+use Rattle.std.specs.Prelude.{Bool, true, false, List, ◌≡◌, ℕ, ◌<◌, length, get_or, Float, Err, None, Ok, Option, Result, Some}
+use Rattle.refusal.specs.declared.Refusal.{Refusal}
 use Rattle.chain.specs.declared.Joints.{Joints}
 use Rattle.chain.specs.declared.Kinematics.{Kinematics}
 use Rattle.model.specs.Model.{links_of}
@@ -33,7 +33,7 @@ pub record NoneOn (k : Kinematics) (bytes : List ℕ) (l : List Joints) : Type 0
   pub none : (q : ℕ) (d : Joints) → q < length l → NoneIn (meets k bytes (get_or l q d)) (links_of bytes)
 
 -- ---- the answer
-abbrev pub Answered : List ℕ → Kinematics → List ℕ → List Float → Meeting → Type 0
-Answered name k bytes joints (Meeting.At pose f s) = (meeting_check name k bytes joints ≡ Checked.Passed) × FirstOn k bytes (sets_in joints) pose f s
-Answered name k bytes joints Meeting.Apart = (meeting_check name k bytes joints ≡ Checked.Passed) × NoneOn k bytes (sets_in joints)
-Answered name k bytes joints (Meeting.Refused r) = meeting_check name k bytes joints ≡ Checked.Refused r
+abbrev pub Answered : List ℕ → Kinematics → List ℕ → List Float → Result (Option Meeting) Refusal → Type 0
+Answered name k bytes joints (Ok (Some m)) = (meeting_check name k bytes joints ≡ Ok tt) × FirstOn k bytes (sets_in joints) m.pose m.first m.second
+Answered name k bytes joints (Ok None) = (meeting_check name k bytes joints ≡ Ok tt) × NoneOn k bytes (sets_in joints)
+Answered name k bytes joints (Err r) = meeting_check name k bytes joints ≡ Err r

@@ -1,11 +1,10 @@
 -- The words in which inner functions promise their results. A reader who believes `Meeting` needs none of them.
-use Rattle.std.specs.Prelude.{Bool, cond, not, ◌&&◌, List, map, ℕ, ◌+◌, eqb, leb, length, take, Float}
+use Rattle.std.specs.Prelude.{Bool, true, false, cond, not, ◌&&◌, List, map, ℕ, ◌+◌, eqb, leb, length, Float, Option}
 use Rattle.std.specs.Float.Ieee as Ieee
-use Rattle.float.specs.Helpers.{nought}
 use Rattle.geometry.specs.declared.Rigid.{Rigid}
 use Rattle.geometry.specs.declared.Vec3.{Vec3}
 use Rattle.geometry.specs.Rigid.{identity, map_point}
-use Rattle.geometry.specs.Vector.{plus, gap_vec, vector}
+use Rattle.geometry.specs.Vector.{plus, gap_vec}
 use Rattle.chain.specs.declared.Joints.{Joints}
 use Rattle.chain.specs.declared.Kinematics.{Kinematics}
 use Rattle.chain.specs.declared.Prepared.{Prepared}
@@ -19,35 +18,28 @@ use Rattle.model.specs.Solid.{solid_at}
 use Rattle.meet.specs.Balls.{middle_of, radius_of}
 use Rattle.meet.specs.Meeting.{first_pair}
 use Rattle.meet.specs.declared.Ball.{Ball}
-use Rattle.meet.specs.declared.Balls.{Balls}
 use Rattle.meet.specs.declared.Frames.{Frames}
-use Rattle.meet.specs.declared.Pair.{Pair}
+use Rattle.meet.specs.declared.LinkPair.{LinkPair}
 
--- ---- what carries a link, as a small number
-unfoldable pub rotary_class : ℕ → ℕ
-rotary_class i = cond (eqb i 0) 3 4
-
-abbrev pub class_of : LinkKind → ℕ
-class_of Base = 0
-class_of Table = 1
-class_of Head = 2
-class_of (Rotary i) = rotary_class i
-class_of Unknown = 5
+-- ---- whether one thing carries two links
+abbrev pub same_kind : LinkKind → LinkKind → Bool
+same_kind Base Base = true
+same_kind Table Table = true
+same_kind Head Head = true
+same_kind (Rotary i) (Rotary j) = eqb i j
+same_kind Unknown Unknown = true
+same_kind a b = false
 
 -- ---- balls
-abbrev pub classed : ℕ → Vec3 → Float → Ball
-classed c m r = record { class = c; middle = m; radius = r }
+abbrev pub carried_ball : LinkKind → Vec3 → Float → Ball
+carried_ball c m r = record { kind = c; middle = m; radius = r }
 
 unfoldable pub link_ball : Kinematics → List ℕ → Link → Ball
 link_ball k bytes l =
-    classed (class_of (carrier_kind k (carrier_of bytes l))) (middle_of (solid_at bytes l.kind)) (radius_of (solid_at bytes l.kind))
+    carried_ball (carrier_kind k (carrier_of bytes l)) (middle_of (solid_at bytes l.kind)) (radius_of (solid_at bytes l.kind))
 
 unfoldable pub whole_solid : List ℕ → Link → Bool
 whole_solid bytes l = leb (l.kind + 65) (length bytes)
-
--- the balls that an array of them holds
-abbrev pub listed : Balls → List Ball
-listed s = take s.count s.items
 
 -- ---- placed
 unfoldable pub frames_at : Prepared → Joints → Frames
@@ -58,18 +50,19 @@ frames_at p j = record {
   second = frame_of p (turns_forth j.a0 j.a1) j.xyz (Rotary 1);
 }
 
-unfoldable pub frame_for : Frames → ℕ → Rigid
-frame_for f c = cond (eqb c 1) f.table (cond (eqb c 2) f.head (cond (eqb c 3) f.first (cond (eqb c 4) f.second identity)))
+abbrev pub frame_for : Frames → LinkKind → Rigid
+frame_for f Base = identity
+frame_for f Table = f.table
+frame_for f Head = f.head
+frame_for f (Rotary i) = cond (eqb i 0) f.first f.second
+frame_for f Unknown = identity
 
 unfoldable pub placed : Frames → Ball → Ball
-placed f b = classed b.class (map_point (frame_for f b.class) b.middle) b.radius
+placed f b = carried_ball b.kind (map_point (frame_for f b.kind) b.middle) b.radius
 
 -- ---- searched
 unfoldable pub near : Ball → Ball → Bool
-near a b = not (eqb a.class b.class) && Ieee.lt (gap_vec a.middle b.middle) (plus a.radius b.radius)
+near a b = not (same_kind a.kind b.kind) && Ieee.lt (gap_vec a.middle b.middle) (plus a.radius b.radius)
 
-abbrev pub no_ball : Ball
-no_ball = classed 0 (vector nought nought nought) nought
-
-unfoldable pub pair_at : Prepared → List Ball → Joints → Pair
+unfoldable pub pair_at : Prepared → List Ball → Joints → Option LinkPair
 pair_at p l j = first_pair near 0 (map (placed (frames_at p j)) l)

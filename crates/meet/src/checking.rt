@@ -4,30 +4,24 @@ ghost use Rattle.lists.specs.Search.{all};
 ghost use Rattle.model.specs.Model.{links_of};
 ghost use Rattle.meet.specs.Checking as S;
 
-use chain::{Checked, Kinematics, all_within, demand, then, within};
+use chain::{Kinematics, all_within, demand, within};
 use geometry::Vec3;
-use model::LinkSolid;
+use model::{Link, LinkSolid};
+use refusal::{Cause, Refusal};
 
+#[tactic(auto, unfolding(crate::specs::Checking::box_within))]
 fn box_within(min: Vec3, max: Vec3) -> bool
     ensures { result ≡ S.box_within min max }
 {
-    if all_within(min, 100000.0) {
-        return all_within(max, 100000.0);
-    }
-    false
+    all_within(min, 100000.0) && all_within(max, 100000.0)
 }
 
 // The axis has no limit: only its direction counts.
+#[tactic(auto, unfolding(crate::specs::Checking::cylinder_within))]
 fn cylinder_within(base: Vec3, radius: f64, length: f64) -> bool
     ensures { result ≡ S.cylinder_within base radius length }
 {
-    if all_within(base, 100000.0) {
-        if within(radius, 100000.0) {
-            return within(length, 100000.0);
-        }
-        return false;
-    }
-    false
+    all_within(base, 100000.0) && within(radius, 100000.0) && within(length, 100000.0)
 }
 
 fn solid_within(solid: LinkSolid) -> bool
@@ -44,49 +38,38 @@ fn solid_within(solid: LinkSolid) -> bool
     }
 }
 
-// Every check is worked out before the first refusal is known, so the bytes need not be whole here.
-fn small_solid_at(bytes: &[u8], kind: usize) -> bool
-    requires { kind ≤ length bytes.now + 131074 }
-    ensures { result ≡ S.small_solid_at bytes.now kind }
+// Whether the solid of a link is whole and of a size that is served.
+#[tactic(auto, unfolding(crate::specs::Checking::small_solid_at))]
+fn small_solid_at(bytes: &[u8], link: Link) -> bool
+    ensures { result ≡ S.small_solid_at bytes.now link.kind }
 {
-    if kind + 65 <= bytes.len() {
-        return solid_within(model::solid_at(bytes, kind));
-    }
-    false
+    link.kind + 65 <= bytes.len() && solid_within(model::solid_at(bytes, link.kind))
 }
 
 fn solids_within(bytes: &[u8]) -> bool
     ensures { result ≡ all (S.small_link bytes.now) (links_of bytes.now) }
 {
-    let mut at: usize = 0;
-    while at < bytes.len() {
-        let link = model::link_at(bytes, at);
-        if !small_solid_at(bytes, link.kind) {
-            return false;
-        }
-        at = link.end;
-    }
-    true
+    model::links_in(bytes).all(|link| small_solid_at(bytes, link))
 }
 
+#[tactic(auto, unfolding(crate::specs::Checking::meeting_sizes))]
 fn meeting_sizes(k: Kinematics, bytes: &[u8], joints: &[f64]) -> bool
     ensures { result ≡ S.meeting_sizes k bytes.now joints.now }
 {
-    if chain::chain_within(k) {
-        if extremes::all_within(joints) {
-            return solids_within(bytes);
-        }
-        return false;
-    }
-    false
+    chain::chain_within(k) && extremes::all_within(joints) && solids_within(bytes)
 }
 
-pub fn meeting_check(name: &[u8], k: Kinematics, bytes: &[u8], joints: &[f64]) -> Checked
+#[tactic(auto, unfolding(crate::specs::Checking::meeting_check))]
+pub fn meeting_check(
+    name: &[u8],
+    k: Kinematics,
+    bytes: &[u8],
+    joints: &[f64],
+) -> Result<(), Refusal>
     ensures { result ≡ S.meeting_check name.now k bytes.now joints.now }
 {
-    let records = demand(joints.len() % 5 == 0, refusal::LENGTHS_DIFFER, 0);
-    let model = model::full_check(name, k, bytes);
-    let finite = demand(extremes::all_finite(joints), refusal::NOT_FINITE, 0);
-    let sizes = demand(meeting_sizes(k, bytes, joints), refusal::TOO_LARGE, 0);
-    then(records, then(model, then(finite, sizes)))
+    demand(joints.len() % 5 == 0, Cause::LengthsDiffer, 0)?;
+    model::full_check(name, k, bytes)?;
+    demand(extremes::all_finite(joints), Cause::NotFinite, 0)?;
+    demand(meeting_sizes(k, bytes, joints), Cause::TooLarge, 0)
 }

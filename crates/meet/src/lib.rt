@@ -10,27 +10,24 @@ mod pairs;
 mod placing;
 mod searching;
 
+use arrayvec::ArrayVec;
 use geometry::{Rigid, Vec3};
-use refusal::Refusal;
+use model::LinkKind;
 pub use searching::links_meet;
 
-// The ball of a link, and what carries it: 0 the base, 1 all tables, 2 all heads, 3 and 4 the first and the second
-// rotary. Two links of a model that passed its check have one class exactly where they have one carrier.
-#[derive(Clone, Copy)]
+// The ball of a link, and what carries it. Two links of a model that passed its check have one kind exactly where they
+// have one carrier. The default is no ball: what an unused place of a list holds.
+#[derive(Clone, Copy, Default)]
 pub struct Ball {
-    pub class: u8,
+    pub kind: LinkKind,
     pub middle: Vec3,
     pub radius: f64,
 }
 
 // The balls of a model's links, in their order.
-#[derive(Clone, Copy)]
-pub struct Balls {
-    pub count: usize,
-    pub items: [Ball; 64],
-}
+type Balls = ArrayVec<Ball, 64>;
 
-// The frames of classes 1 to 4 at a joint set. The base has none: it stands still.
+// The frames of tables, of heads and of each rotary at a joint set. The base has none: it stands still.
 #[derive(Clone, Copy)]
 pub struct Frames {
     pub table: Rigid,
@@ -39,21 +36,17 @@ pub struct Frames {
     pub second: Rigid,
 }
 
-// The first two that meet at a pose, by index.
+// Two links by index, the earlier one first.
 #[derive(Clone, Copy)]
-pub enum Pair {
-    Links { first: usize, second: usize },
-    Apart,
+pub struct LinkPair {
+    pub first: usize,
+    pub second: usize,
 }
 
 // The first pose where two links meet, and the first two that do.
 #[derive(Clone, Copy)]
-pub enum Meeting {
-    At {
-        pose: usize,
-        first: usize,
-        second: usize,
-    },
-    Apart,
-    Refused(Refusal),
+pub struct Meeting {
+    pub pose: usize,
+    pub first: usize,
+    pub second: usize,
 }

@@ -1,43 +1,33 @@
 // The first pair that meets: by the earlier ball, then by the later.
-ghost use Rattle.std.specs.Prelude.{◌≤◌, ◌≡◌};
+ghost use Rattle.std.specs.Prelude.{◌≡◌, position};
 ghost use Rattle.meet.specs.Meeting as S;
 ghost use Rattle.meet.specs.MeetingSteps as T;
 
-use crate::{Ball, Balls, Pair};
+use crate::{Ball, LinkPair};
 
+#[tactic(auto, unfolding(crate::specs::MeetingSteps::near))]
 fn near(left: Ball, right: Ball) -> bool
     ensures { result ≡ T.near left right }
 {
-    if left.class == right.class {
-        return false;
-    }
-    geometry::gap_vec(left.middle, right.middle) < left.radius + right.radius
+    left.kind != right.kind
+        && geometry::gap_vec(left.middle, right.middle) < left.radius + right.radius
 }
 
-// One loop goes over both links of a pair, and not a loop in a loop: a call for each earlier ball would copy all of them.
-pub fn first_pair(balls: Balls) -> Pair
-    requires { balls.count ≤ 64 }
-    ensures { result ≡ S.first_pair T.near 0 (T.listed balls) }
+fn first_near(ball: Ball, others: &[Ball]) -> Option<usize>
+    ensures { result ≡ position (T.near ball) others.now }
 {
-    let n = balls.count;
-    let items = balls.items;
-    let mut i = 0;
-    let mut k = 1;
-    while i < n {
-        if n <= k {
-            i += 1;
-            k = i + 1;
-            continue;
+    others.iter().position(|other| near(ball, *other))
+}
+
+pub fn first_pair(balls: &[Ball]) -> Option<LinkPair>
+    ensures { result ≡ S.first_pair T.near 0 balls.now }
+{
+    for (first, ball) in balls.iter().enumerate() {
+        let later = &balls[first + 1..];
+        if let Some(k) = first_near(*ball, later) {
+            let second = first + 1 + k;
+            return Some(LinkPair { first, second });
         }
-        let ball = items[i];
-        let other = items[k];
-        if near(ball, other) {
-            return Pair::Links {
-                first: i,
-                second: k,
-            };
-        }
-        k += 1;
     }
-    Pair::Apart
+    None
 }

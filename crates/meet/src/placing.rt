@@ -1,13 +1,15 @@
 // The balls at a joint set: each middle placed by the frame of what carries it.
-ghost use Rattle.std.specs.Prelude.{◌≤◌, map, ◌≡◌};
+ghost use Rattle.std.specs.Prelude.{◌≤◌, map, ◌≡◌, length};
 ghost use Rattle.meet.specs.MeetingSteps as T;
 
 use crate::{Ball, Balls, Frames};
+use arrayvec::ArrayVec;
 use chain::{Joints, Prepared};
 use geometry::Rigid;
 use model::{LinkKind, frame_of};
 
 // Every frame once for a joint set.
+#[tactic(auto, unfolding(crate::specs::MeetingSteps::frames_at))]
 pub fn frames_at(p: Prepared, j: Joints) -> Frames
     ensures { result ≡ T.frames_at p j }
 {
@@ -24,47 +26,37 @@ pub fn frames_at(p: Prepared, j: Joints) -> Frames
     }
 }
 
-fn frame_for(frames: Frames, class: u8) -> Rigid
-    ensures { result ≡ T.frame_for frames class }
+fn frame_for(frames: Frames, kind: LinkKind) -> Rigid
+    ensures { result ≡ T.frame_for frames kind }
 {
-    if class == 1 {
-        return frames.table;
+    match kind {
+        LinkKind::Table => frames.table,
+        LinkKind::Head => frames.head,
+        LinkKind::Rotary(0) => frames.first,
+        LinkKind::Rotary(_) => frames.second,
+        LinkKind::Base | LinkKind::Unknown => Rigid::identity(),
     }
-    if class == 2 {
-        return frames.head;
-    }
-    if class == 3 {
-        return frames.first;
-    }
-    if class == 4 {
-        return frames.second;
-    }
-    Rigid::identity()
 }
 
 fn placed(frames: Frames, ball: Ball) -> Ball
     ensures { result ≡ T.placed frames ball }
 {
-    let frame = frame_for(frames, ball.class);
+    let frame = frame_for(frames, ball.kind);
     let middle = frame.map_point(ball.middle);
     Ball {
-        class: ball.class,
+        kind: ball.kind,
         middle,
         radius: ball.radius,
     }
 }
 
-pub fn placed_all(frames: Frames, balls: Balls) -> Balls
-    requires { balls.count ≤ 64 }
-    ensures { (result.count ≡ balls.count) × (T.listed result ≡ map (T.placed frames) (T.listed balls)) }
+pub fn placed_all(frames: Frames, balls: &[Ball]) -> Balls
+    requires { length balls.now ≤ 64 }
+    ensures { result.items ≡ map (T.placed frames) balls.now }
 {
-    let n = balls.count;
-    let mut items = balls.items;
-    let mut i = 0;
-    while i < n {
-        let ball = items[i];
-        items[i] = placed(frames, ball);
-        i += 1;
+    let mut all = ArrayVec::new();
+    for ball in balls {
+        all.push(placed(frames, *ball));
     }
-    Balls { count: n, items }
+    all
 }

@@ -1,5 +1,5 @@
 -- The tolerance test of two neighbours, and the rule of document 01's halving: two neighbours are divided if they fail the test and their midpoint differs from each by more than 1e-12.
-use Rattle.std.specs.Prelude.{Bool, true, not, cond, ◌&&◌, ◌||◌, Float}
+use Rattle.std.specs.Prelude.{Bool, true, not, cond, ◌&&◌, ◌||◌, Float, None, Option, Some}
 use Rattle.std.specs.Float.Ieee as Ieee
 use Rattle.std.specs.Float.{binary64}
 use Rattle.std.specs.Float.Ieee.{of_bits}
@@ -13,8 +13,6 @@ use Rattle.chain.specs.declared.ToolPose.{ToolPose}
 use Rattle.chain.specs.Forward.{forward_core, turns_of}
 use Rattle.middle.specs.declared.Item.{Item}
 use Rattle.middle.specs.declared.Tolerances.{Tolerances}
-use Rattle.middle.specs.declared.Verdict.{Verdict}
-use Rattle.middle.specs.declared.Verdict.TheVariants.{Keep, Divide}
 
 -- 1e-12 and 0.5
 abbrev pub least : Float
@@ -69,9 +67,9 @@ unfoldable pub divides : Prepared → Tolerances → Item → Item → Bool
 divides p tol left right = not (segment_within p tol left right) && not (near_an_end left right (midpoint p left right))
 
 -- the same from the axes that the two joint sets reach
-unfoldable pub verdict_with : Prepared → Tolerances → Item → Item → Vec3 → Vec3 → Verdict
+unfoldable pub verdict_with : Prepared → Tolerances → Item → Item → Vec3 → Vec3 → Option Item
 verdict_with p tol left right axis_left axis_right =
-    cond (joints_unchanged left.joints right.joints) Keep
-    (cond (middle_within tol left right axis_left axis_right (midpoint p left right)) Keep
-    (cond (near_an_end left right (midpoint p left right)) Keep
-    (Divide (midpoint p left right))))
+    cond (joints_unchanged left.joints right.joints) None
+    (cond (middle_within tol left right axis_left axis_right (midpoint p left right)) None
+    (cond (near_an_end left right (midpoint p left right)) None
+    (Some (midpoint p left right))))

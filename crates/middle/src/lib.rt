@@ -1,4 +1,5 @@
-// The middle of two neighbours on a path: their midpoint, and the tolerance test there. A crate of its own, below the machine that asks it at every turn, so that a wrong test or midpoint is refused without the machine's proofs.
+// The middle of two neighbours on a path: their midpoint, and the tolerance test there. A crate of its own, below the
+// machine that asks it at every turn, so that a wrong test or midpoint is refused without the machine's proofs.
 #![tactic(auto)]
 
 mod testing;
@@ -18,11 +19,4 @@ pub struct Tolerances {
 pub struct Item {
     pub pose: ToolPose,
     pub joints: Joints,
-}
-
-// Whether two neighbours stay as they are, or get their midpoint between them.
-#[derive(Clone, Copy)]
-pub enum Verdict {
-    Keep,
-    Divide(Item),
 }

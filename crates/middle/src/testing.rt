@@ -1,8 +1,9 @@
-// The tolerance test of two neighbours, and their midpoint. The test reads tips and joints alone, never a pose's axis. With the axes that the two joint sets reach at hand, a test costs one `forward`.
+// The tolerance test of two neighbours, and their midpoint. The test reads tips and joints alone, never a pose's axis.
+// With the axes that the two joint sets reach at hand, a test costs one `forward`.
 ghost use Rattle.std.specs.Prelude.{◌≡◌};
 ghost use Rattle.middle.specs.Testing as S;
 
-use crate::{Item, Tolerances, Verdict};
+use crate::{Item, Tolerances};
 use chain::{Joints, Prepared, ToolPose};
 use geometry::Vec3;
 
@@ -14,15 +15,13 @@ fn as_near(left: f64, right: f64) -> bool
 }
 
 // The positions and both angles are not more than 1e-12 apart.
+#[tactic(auto, unfolding(crate::specs::Testing::joints_unchanged))]
 pub fn joints_unchanged(left: Joints, right: Joints) -> bool
     ensures { result ≡ S.joints_unchanged left right }
 {
-    if geometry::gap_vec(left.xyz, right.xyz) <= 1e-12 {
-        if as_near(left.a0, right.a0) {
-            return as_near(left.a1, right.a1);
-        }
-    }
-    false
+    geometry::gap_vec(left.xyz, right.xyz) <= 1e-12
+        && as_near(left.a0, right.a0)
+        && as_near(left.a1, right.a1)
 }
 
 // Halfway between two joint sets, number by number.
@@ -81,10 +80,7 @@ fn middle_within(
 ) -> bool
     ensures { result ≡ S.middle_within tol left right left_axis right_axis middle }
 {
-    if tip_gap(left, right, middle) <= tol.chord {
-        return axis_gap(left_axis, right_axis, middle) <= tol.axis;
-    }
-    false
+    tip_gap(left, right, middle) <= tol.chord && axis_gap(left_axis, right_axis, middle) <= tol.axis
 }
 
 // The tolerance test.
@@ -110,7 +106,8 @@ fn near_an_end(left: Item, right: Item, middle: Item) -> bool
     joints_unchanged(middle.joints, right.joints)
 }
 
-// What becomes of two neighbours, of which the axes reached are at hand.
+// What becomes of two neighbours, of which the axes reached are at hand. They stand beside the items and not with them
+// in a struct: a call would read `verdict_with(p, tol, Reached { item: left, axis: left_axis }, Reached { .. })`.
 pub fn verdict_with(
     p: Prepared,
     tol: Tolerances,
@@ -118,18 +115,18 @@ pub fn verdict_with(
     right: Item,
     left_axis: Vec3,
     right_axis: Vec3,
-) -> Verdict
+) -> Option<Item>
     ensures { result ≡ S.verdict_with p tol left right left_axis right_axis }
 {
     if joints_unchanged(left.joints, right.joints) {
-        return Verdict::Keep;
+        return None;
     }
     let middle = midpoint(p, left, right);
     if middle_within(tol, left, right, left_axis, right_axis, middle) {
-        return Verdict::Keep;
+        return None;
     }
     if near_an_end(left, right, middle) {
-        return Verdict::Keep;
+        return None;
     }
-    Verdict::Divide(middle)
+    Some(middle)
 }

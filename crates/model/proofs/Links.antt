@@ -1,22 +1,47 @@
 -- Laws of the links of a model: what they are from one link on to the next, and the walks over them. The bound in their definition leaves none out: `links-more` and `links-none` do not know it.
 use Prim.Native.Nat.{ℕ, zero, suc, ◌+◌, ◌-◌, ◌≤◌, ◌<◌}
 use native.Mathlib.Omega.{arith}
-use mathlib.Core.Path.{◌≡◌, refl, sym, ap}
-use mathlib.Core.Bool.{Bool, true, false, cond}
+use mathlib.Core.HLevel.{is_prop→PathP}
+use Rattle.std.proofs.Math.Bridge.{le_prop}
+use mathlib.Core.Path.{◌≡◌, refl, sym, ap, ◌∙◌, subst}
+use mathlib.Core.Bool.{Bool, true, false, cond, ◌&&◌, ◌||◌}
+use Rattle.std.specs.List.{list_any, list_all}
 use mathlib.Core.List.{List, [], ◌∷◌, map}
 use lib.Dec.{ltb}
 use lib.ListN.{length}
-use borrow.Author.Tests.{lt-ltb, le-ltb}
-use Rattle.lists.specs.Search.{any}
+use borrow.Author.Tests.{lt-ltb, le-ltb, ltb-true}
+use Rattle.std.specs.Prelude.{Err, Ok}
+use Rattle.lists.specs.Search.{any, all}
+use Rattle.chain.specs.Checked.{Checked}
 use Rattle.chain.specs.declared.Kinematics.{Kinematics}
-use Rattle.chain.specs.declared.Checked.{Checked}
-use Rattle.chain.specs.declared.Checked.TheVariants.{Passed, Refused}
 use Rattle.chain.specs.Check.{first_refusal}
 use Rattle.refusal.specs.declared.Refusal.{Refusal}
 use Rattle.model.specs.declared.Link.{Link}
-use Rattle.model.specs.declared.LinkRead.TheVariants as LinkRead
-use Rattle.model.specs.Model.{link_at, link_fields, link_unless, links_within, links, read_link}
+use Rattle.model.specs.declared.LinkIter.{LinkIter}
+use Rattle.model.specs.Model.{link_at, links_within, links, links_of}
 use Rattle.model.specs.ModelCheck.{link_check, link_checks}
+
+-- ---- one link, by its offsets: that they are in order adds nothing
+pub same_link : (l m : Link) → l.name ≡ m.name → l.carrier ≡ m.carrier → l.kind ≡ m.kind → l.end ≡ m.end → l ≡ m
+same_link l m a b c d =
+    λ i. record {
+      name = a i;
+      carrier = b i;
+      kind = c i;
+      end = d i;
+      in_order = is_prop→PathP (λ j. (a j + 2 ≤ b j) × (b j + 2 ≤ c j) × (c j + 65 ≤ d j)) (λ j. hlevel le_prop) l.in_order m.in_order i;
+    }
+
+-- the library's tests of a list, and those of `lists`
+pub any_is : {A : Type 0} (test : A → Bool) (l : List A) → list_any test l ≡ any test l
+unfolding any
+any_is test [] = refl
+any_is test (x ∷ l) = ap (λ b. test x || b) (any_is test l)
+
+pub all_is : {A : Type 0} (test : A → Bool) (l : List A) → list_all test l ≡ all test l
+unfolding all
+all_is test [] = refl
+all_is test (x ∷ l) = ap (λ b. test x && b) (all_is test l)
 
 -- ---- the links from one on
 pub link_grows : (bytes : List ℕ) (at : ℕ) → at < (link_at bytes at).end
@@ -41,6 +66,42 @@ pub links_none : (bytes : List ℕ) (from to : ℕ) → to ≤ from → links by
 unfolding links
 links_none bytes from to h = none_within (to - from) bytes from to h
 
+few_within : (n : ℕ) (bytes : List ℕ) (from to : ℕ) → length (links_within n bytes from to) ≤ n
+unfolding links_within
+few_within zero bytes from to = omega arith
+few_within (suc n) bytes from to =
+    elim (ltb from to) as (λ b. length (cond b (link_at bytes from ∷ links_within n bytes (link_at bytes from).end to) []) ≤ suc n) [
+      | true ↦ let h = few_within n bytes (link_at bytes from).end to in omega (arith, h)
+      | false ↦ omega arith
+    ]
+
+-- of the links of a model there are not more than bytes
+pub links_few : (bytes : List ℕ) → length (links_of bytes) ≤ length bytes
+unfolding links_of links
+links_few bytes =
+    let few = few_within (length bytes - 0) bytes 0 (length bytes) in
+    omega (arith, few)
+
+-- each has its name before the end
+abbrev pub NamesBelow : ℕ → List Link → Type 0
+NamesBelow n [] = Unit {0}
+NamesBelow n (l ∷ ls) = (l.name < n) × NamesBelow n ls
+
+name_kept : (b : Bool) (n : ℕ) (l : Link) (ls : List Link) → (b ≡ true → l.name < n) → NamesBelow n ls → NamesBelow n (cond b (l ∷ ls) [])
+name_kept true n l ls h g = (h refl, g)
+name_kept false n l ls h g = tt
+
+names_within : (n : ℕ) (bytes : List ℕ) (from to : ℕ) → NamesBelow to (links_within n bytes from to)
+unfolding links_within link_at
+names_within zero bytes from to = tt
+names_within (suc n) bytes from to =
+    name_kept (ltb from to) to (link_at bytes from) (links_within n bytes (link_at bytes from).end to) (ltb-true from to)
+    (names_within n bytes (link_at bytes from).end to)
+
+pub names_in : (bytes : List ℕ) → NamesBelow (length bytes) (links_of bytes)
+unfolding links_of links
+names_in bytes = names_within (length bytes - 0) bytes 0 (length bytes)
+
 pub links_more : (bytes : List ℕ) (from to : ℕ) → from < to → links bytes from to ≡ link_at bytes from ∷ links bytes (link_at bytes from).end to
 unfolding links links_within
 links_more bytes from to h =
@@ -50,84 +111,55 @@ links_more bytes from to h =
     (ap (λ (l : List Link). link_at bytes from ∷ l)
     (enough (to - from - 1) (to - (link_at bytes from).end) bytes (link_at bytes from).end to (omega arith) (omega arith)))
 
--- ---- a link that was read
-module _ (bytes : List ℕ) (at : ℕ) where
-  given : (c : Checked) (l m : Link) → link_unless c m ≡ LinkRead.Link l → (l ≡ m) × (c ≡ Passed)
-  given Passed l m e = (cc, refl)
-  given (Refused r) l m e = (cc, cc)
-
-  pub read_whole : {l : Link} → read_link bytes at ≡ LinkRead.Link l → (l ≡ link_at bytes at) × (link_fields bytes l ≡ Passed)
-  unfolding read_link
-  read_whole {l} e =
-      let g = given (link_fields bytes (link_at bytes at)) l (link_at bytes at) e in
-      (g.0, rw g.0 g.1)
-
-  pub read_grows : {l : Link} → read_link bytes at ≡ LinkRead.Link l → at < l.end
-  read_grows e = rw (read_whole e).0 (link_grows bytes at)
-
-  breached : (c : Checked) (m : Link) (r : Refusal) → link_unless c m ≡ LinkRead.Refused r → c ≡ Refused r
-  breached Passed m r e = cc
-  breached (Refused s) m r e = cc
-
-  pub read_breach : {r : Refusal} → read_link bytes at ≡ LinkRead.Refused r → link_fields bytes (link_at bytes at) ≡ Refused r
-  unfolding read_link
-  read_breach {r} e = breached (link_fields bytes (link_at bytes at)) (link_at bytes at) r e
-
 -- ---- a walk: from the link l at `at` on to the next
-first_passed : (l : List Checked) → first_refusal (Passed ∷ l) ≡ first_refusal l
+first_passed : (l : List Checked) → first_refusal ((Ok tt) ∷ l) ≡ first_refusal l
 first_passed [] = refl
 first_passed (c ∷ l) = refl
 
-first_refused : (r : Refusal) (l : List Checked) → first_refusal (Refused r ∷ l) ≡ Refused r
+first_refused : (r : Refusal) (l : List Checked) → first_refusal (Err r ∷ l) ≡ Err r
 first_refused r [] = refl
 first_refused r (c ∷ l) = refl
 
+module _ (f : Link → Checked) {ls later : List Link} {l : Link} (this : ls ≡ l ∷ later) where
+  pub fields_passed : f l ≡ Ok tt → first_refusal (map f ls) ≡ first_refusal (map f later)
+  fields_passed e =
+      ap (λ (x : List Link). first_refusal (map f x)) this
+      ∙ (ap (λ (c : Checked). first_refusal (c ∷ map f later)) e
+      ∙ first_passed (map f later))
+
+  pub fields_refused : {r : Refusal} → f l ≡ Err r → first_refusal (map f ls) ≡ Err r
+  fields_refused {r} e =
+      ap (λ (x : List Link). first_refusal (map f x)) this
+      ∙ (ap (λ (c : Checked). first_refusal (c ∷ map f later)) e
+      ∙ first_refused r (map f later))
+
 module _ (bytes : List ℕ) (at to : ℕ) (l : Link) (within : at < to) (this : l ≡ link_at bytes at) where
-  next : links bytes at to ≡ l ∷ links bytes l.end to
+  pub next : links bytes at to ≡ l ∷ links bytes l.end to
   next = rw this (links_more bytes at to within)
 
-  pub counted : (total count : ℕ) → total ≡ count + length (links bytes at to) → total ≡ count + 1 + length (links bytes l.end to)
-  counted total count e =
-      let s : length (links bytes at to) ≡ suc (length (links bytes l.end to)) = rw next in
-      omega arith
-
-  pub fields_passed : (f : Link → Checked) → f l ≡ Passed → first_refusal (map f (links bytes at to)) ≡ first_refusal (map f (links bytes l.end to))
-  fields_passed f e = rw (next, e) (first_passed (map f (links bytes l.end to)))
-
-  pub fields_refused : (f : Link → Checked) {r : Refusal} → f l ≡ Refused r → first_refusal (map f (links bytes at to)) ≡ Refused r
-  fields_refused f {r} e = rw (next, e) (first_refused r (map f (links bytes l.end to)))
-
-  pub checks_passed : (k : Kinematics) (i : ℕ) → link_check k bytes l i ≡ Passed
-      → first_refusal (link_checks k bytes i (links bytes at to)) ≡ first_refusal (link_checks k bytes (i + 1) (links bytes l.end to))
+-- the checks of links, of which the first has the index i
+module _ (k : Kinematics) (bytes : List ℕ) {ls later : List Link} {l : Link} (this : ls ≡ l ∷ later) (i : ℕ) where
+  pub checks_passed : link_check k bytes l i ≡ Ok tt → first_refusal (link_checks k bytes i ls) ≡ first_refusal (link_checks k bytes (i + 1) later)
   unfolding link_checks
-  checks_passed k i e = rw (next, e) (first_passed (link_checks k bytes (i + 1) (links bytes l.end to)))
+  checks_passed e =
+      ap (λ (x : List Link). first_refusal (link_checks k bytes i x)) this
+      ∙ (ap (λ (c : Checked). first_refusal (c ∷ link_checks k bytes (i + 1) later)) e
+      ∙ first_passed (link_checks k bytes (i + 1) later))
 
-  pub checks_refused : (k : Kinematics) (i : ℕ) {r : Refusal} → link_check k bytes l i ≡ Refused r → first_refusal (link_checks k bytes i (links bytes at to)) ≡ Refused r
+  pub checks_refused : {r : Refusal} → link_check k bytes l i ≡ Err r → first_refusal (link_checks k bytes i ls) ≡ Err r
   unfolding link_checks
-  checks_refused k i {r} e = rw (next, e) (first_refused r (link_checks k bytes (i + 1) (links bytes l.end to)))
+  checks_refused {r} e =
+      ap (λ (x : List Link). first_refusal (link_checks k bytes i x)) this
+      ∙ (ap (λ (c : Checked). first_refusal (c ∷ link_checks k bytes (i + 1) later)) e
+      ∙ first_refused r (link_checks k bytes (i + 1) later))
 
-  pub not_this : (test : Link → Bool) → test l ≡ false → any test (links bytes at to) ≡ any test (links bytes l.end to)
-  unfolding any
-  not_this test e = rw (next, e)
+pub first_name : {n : ℕ} {ls later : List Link} {l : Link} → ls ≡ l ∷ later → NamesBelow n ls → (l.name < n) × NamesBelow n later
+first_name {n} e h = subst (NamesBelow n) e h
 
-  pub this_one : (test : Link → Bool) → test l ≡ true → any test (links bytes at to) ≡ true
-  unfolding any
-  this_one test e = rw (next, e)
+pub checks_end : (k : Kinematics) (bytes : List ℕ) (i : ℕ) {ls : List Link} → ls ≡ [] → first_refusal (link_checks k bytes i ls) ≡ Ok tt
+unfolding link_checks
+checks_end k bytes i e = rw e
 
--- its end
-module _ (bytes : List ℕ) (at to : ℕ) (past : to ≤ at) where
-  pub all_counted : {total count : ℕ} → total ≡ count + length (links bytes at to) → count ≡ total
-  all_counted {total} {count} e =
-      let s : length (links bytes at to) ≡ 0 = rw (links_none bytes at to past) in
-      omega arith
-
-  pub fields_end : (f : Link → Checked) → first_refusal (map f (links bytes at to)) ≡ Passed
-  fields_end f = rw (links_none bytes at to past)
-
-  pub checks_end : (k : Kinematics) (i : ℕ) → first_refusal (link_checks k bytes i (links bytes at to)) ≡ Passed
-  unfolding link_checks
-  checks_end k i = rw (links_none bytes at to past)
-
-  pub no_more : (test : Link → Bool) → any test (links bytes at to) ≡ false
-  unfolding any
-  no_more test = rw (links_none bytes at to past)
+-- what an iterator has left
+abbrev pub left : LinkIter → List Link
+left s = links s.bytes.now s.at s.to

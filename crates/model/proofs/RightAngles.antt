@@ -4,6 +4,8 @@ use mathlib.Core.Path.{◌≡◌, refl, ap, ◌∙◌}
 use mathlib.Core.List.{List, [], ◌∷◌}
 use Prim.Native.Nat.{ℕ}
 use lib.Ieee.{Float, add, sub, mul, div, neg, of_bits, le, lt, eq, round}
+use Rattle.std.specs.Prelude.{Err, Ok, Option, Result}
+use Rattle.refusal.specs.declared.Refusal.{Refusal}
 use Rattle.float.specs.Helpers.{nought, one, size_of}
 use Rattle.root.specs.Root.{root}
 use Rattle.geometry.specs.declared.Vec3.{Vec3}
@@ -13,16 +15,14 @@ use Rattle.geometry.specs.Direction.{all_finite, tiny, with_length, unit_directi
 use Rattle.geometry.specs.Turn.{turn_of, rotate_vector}
 use Rattle.geometry.specs.Rigid.{identity}
 use Rattle.geometry.proofs.RightAngles.{ninety, x_to_y}
-use Rattle.chain.specs.declared.Travel.{Travel}
+use Rattle.chain.specs.declared.RotaryLimits.{RotaryLimits}
+use Rattle.chain.specs.Checked.{Checked}
 use Rattle.chain.specs.declared.Carrier.TheVariants as Carrier
 use Rattle.chain.specs.declared.RotaryJoint.{RotaryJoint}
 use Rattle.chain.specs.declared.Kinematics.{Kinematics}
 use Rattle.chain.specs.declared.Joints.{Joints}
-use Rattle.chain.specs.declared.Checked.{Checked}
 use Rattle.chain.specs.Forward.{table_vector}
 use Rattle.chain.specs.Prepared.{prepared, spin_of, second_spin, unit_axis}
-use Rattle.model.specs.declared.Placed.{Placed}
-use Rattle.model.specs.declared.Placed.TheVariants.{At, Refused}
 use Rattle.model.specs.Carrier.{table, carrier_kind, rotary_named}
 use Rattle.model.specs.Text.{same_bytes}
 use Rattle.model.specs.Frame.{turns_forth, table_map_direction, table_frame, rotary_at_index, through, rotary_frame, world_frame, placed_unless, frame_check, link_world}
@@ -41,16 +41,16 @@ unfolding unit_axis unit_or unit_direction all_finite tiny with_length root dot 
 unit_z = refl
 
 -- the X axis of a frame that is given is Y
-abbrev pub XToY : Placed → Type 0
-XToY (At frame) = frame.axis_x ≡ Y
-XToY (Refused r) = Unit {0}
+abbrev pub XToY : Result Rigid Refusal → Type 0
+XToY (Ok frame) = frame.axis_x ≡ Y
+XToY (Err r) = Unit {0}
 
-unless_refused_lem : (c : Checked) (frame : Rigid) → frame.axis_x ≡ Y → XToY (placed_unless c frame)
-unless_refused_lem Checked.Passed frame h = h
-unless_refused_lem (Checked.Refused r) frame h = tt
+placed_x_to_y : (c : Checked) (frame : Rigid) → frame.axis_x ≡ Y → XToY (placed_unless c frame)
+placed_x_to_y (Ok _) frame h = h
+placed_x_to_y (Err r) frame h = tt
 
 -- ---- the chain and the joints: the letter C is the byte 67
-module _ (limits : Travel) (pivot spindle xyz : Vec3) (unused : RotaryJoint) (rest a1 : Float) where
+module _ (limits : Option RotaryLimits) (pivot spindle xyz : Vec3) (unused : RotaryJoint) (rest a1 : Float) where
   abbrev chain : Kinematics
   chain = record { count = 1; first = record { letter = 67; carrier = Carrier.Table; limits = limits; axis = Z; pivot = pivot; rest = rest }; second = unused; spindle_axis = spindle }
 
@@ -60,9 +60,9 @@ module _ (limits : Travel) (pivot spindle xyz : Vec3) (unused : RotaryJoint) (re
   turned : rotate_vector (unit_axis Z) X (turn_of ninety) ≡ Y
   turned = ap (λ (axis : Vec3). rotate_vector axis X (turn_of ninety)) unit_z ∙ x_to_y
 
-  table_frame_lem : (world_frame chain joints table).axis_x ≡ Y
+  turned_table : (world_frame chain joints table).axis_x ≡ Y
   unfolding carrier_kind same_bytes table_frame table_map_direction table_vector prepared spin_of second_spin turns_forth identity
-  table_frame_lem = turned
+  turned_table = turned
 
   letter_frame : (world_frame chain joints (67 ∷ [])).axis_x ≡ Y
   unfolding carrier_kind same_bytes rotary_named rotary_frame rotary_at_index through table_frame table_map_direction table_vector prepared spin_of second_spin turns_forth identity
@@ -70,8 +70,8 @@ module _ (limits : Travel) (pivot spindle xyz : Vec3) (unused : RotaryJoint) (re
 
   pub table_x_to_y : (name model : List ℕ) → XToY (link_world name chain model joints table)
   unfolding link_world
-  table_x_to_y name model = unless_refused_lem (frame_check name chain model joints (carrier_kind chain table)) (world_frame chain joints table) table_frame_lem
+  table_x_to_y name model = placed_x_to_y (frame_check name chain model joints (carrier_kind chain table)) (world_frame chain joints table) turned_table
 
   pub letter_x_to_y : (name model : List ℕ) → XToY (link_world name chain model joints (67 ∷ []))
   unfolding link_world
-  letter_x_to_y name model = unless_refused_lem (frame_check name chain model joints (carrier_kind chain (67 ∷ []))) (world_frame chain joints (67 ∷ [])) letter_frame
+  letter_x_to_y name model = placed_x_to_y (frame_check name chain model joints (carrier_kind chain (67 ∷ []))) (world_frame chain joints (67 ∷ [])) letter_frame

@@ -1,35 +1,32 @@
--- Laws of texts: two of one length, compared from any byte of them on.
-use Prim.Native.Nat.{ℕ, suc, ◌+◌, ◌≤◌, ◌<◌}
-use native.Mathlib.Numerals.{add-one}
+-- Laws of texts: two that are equal by the library, and one cut out of bytes.
+use Prim.Native.Nat.{ℕ, ◌+◌, ◌-◌, ◌≤◌, ◌<◌}
 use mathlib.Core.Path.{◌≡◌, refl, ap}
-use mathlib.Core.Bool.{Bool, true, false, ◌&&◌}
+use mathlib.Core.Bool.{true, false, cond, ◌&&◌}
 use mathlib.Core.List.{List, [], ◌∷◌}
-use lib.Dec.{eqb}
-use lib.ListN.{length, drop, get_or, drop_of_length-le}
-use lib.Seq.{drop-cons}
-use borrow.Author.Tests.{eq-eqb, ne_eqb}
-use Rattle.model.specs.Text.{same_bytes}
+use lib.Dec.{eqb, ltb}
+use lib.ListN.{length, take, drop}
+use lib.Pointwise.{pointwise}
+use borrow.Author.Tests.{lt-ltb, le-ltb}
+use Rattle.std.proofs.Common.{Option, Some, None, Bor, ◌⊎◌, inl, inr, MatchOption, slice_range}
+use Rattle.std.specs.Option.{unwrap_or}
+use Rattle.model.specs.Text.{text, same_bytes}
 
-and_false : (b : Bool) → (b && false) ≡ false
-and_false true = refl
-and_false false = refl
-
-pub lengths_differ : (l m : List ℕ) → (length l ≡ length m → ⊥) → same_bytes l m ≡ false
+pub same_is : (l m : List ℕ) → pointwise eqb l m ≡ same_bytes l m
 unfolding same_bytes
-lengths_differ [] [] h = absurd (h refl)
-lengths_differ [] (y ∷ m) h = refl
-lengths_differ (x ∷ l) [] h = refl
-lengths_differ (x ∷ l) (y ∷ m) h = rw (lengths_differ l m (λ e. h (ap suc e))) (and_false (eqb x y))
+same_is [] [] = refl
+same_is [] (y ∷ m) = refl
+same_is (x ∷ l) [] = refl
+same_is (x ∷ l) (y ∷ m) = ap (λ b. eqb x y && b) (same_is l m)
 
-module _ (l m : List ℕ) (i : ℕ) (p : i < length l) (q : i < length m) where
-  pub bytes_agree : get_or l i 0 ≡ get_or m i 0 → same_bytes (drop i l) (drop i m) ≡ same_bytes (drop (i + 1) l) (drop (i + 1) m)
-  unfolding same_bytes
-  bytes_agree e = rw (drop-cons l i 0 p, drop-cons m i 0 q, eq-eqb (get_or l i 0) (get_or m i 0) e, add-one)
-
-  pub bytes_differ : (get_or l i 0 ≡ get_or m i 0 → ⊥) → same_bytes (drop i l) (drop i m) ≡ false
-  unfolding same_bytes
-  bytes_differ e = rw (drop-cons l i 0 p, drop-cons m i 0 q, ne_eqb (get_or l i 0) (get_or m i 0) e)
-
-pub bytes_end : (l m : List ℕ) (i : ℕ) → length l ≤ i → length m ≤ i → same_bytes (drop i l) (drop i m) ≡ true
-unfolding same_bytes
-bytes_end l m i p q = rw (drop_of_length-le l p, drop_of_length-le m q)
+-- the bytes of a range that is there, else none
+pub text_is : (bytes : List ℕ) (from to : ℕ) (got : Option (Bor (List ℕ))) (none : Bor (List ℕ)) → none.now ≡ []
+    → MatchOption got ((to < from) ⊎ (length bytes < to)) (λ x. (from ≤ to) × (to ≤ length bytes) × (x.now ≡ slice_range bytes from to) × (length x.now + from ≡ to))
+    → (unwrap_or got none).now ≡ text bytes from to
+unfolding text
+text_is bytes from to (Some x) none e h = rw (le-ltb _ _ h.1, le-ltb _ _ h.0) h.2
+text_is bytes from to None none e (inl h) =
+    elim (ltb (length bytes) to) as (λ b. none.now ≡ cond b [] (cond (ltb to from) [] (take (to - from) (drop from bytes)))) [
+      | true ↦ e
+      | false ↦ rw (lt-ltb to from h) e
+    ]
+text_is bytes from to None none e (inr h) = rw (lt-ltb _ _ h) e

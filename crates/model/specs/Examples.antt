@@ -1,9 +1,9 @@
 -- Worked examples of a model's bytes: where the first bad field is.
-use Rattle.std.specs.Prelude.{◌≡◌, refl, List, [], ◌∷◌, ◌++◌, ℕ, replicate}
-use Rattle.chain.specs.declared.Checked.{Checked}
-use Rattle.chain.specs.declared.Checked.TheVariants.{Passed, Refused}
+use Rattle.std.specs.Prelude.{◌≡◌, refl, List, [], ◌∷◌, ◌++◌, ℕ, replicate, Err, Ok}
+use Rattle.chain.specs.Checked.{Checked}
 use Rattle.chain.specs.Bytes.{little_endian, spare}
-use Rattle.refusal.specs.Numbers.{refusal, malformed}
+use Rattle.refusal.specs.Numbers.{refusal}
+use Rattle.refusal.specs.declared.Cause.{Cause}
 use Rattle.model.specs.Model.{link_at, kind_good, whole_number, whole_vector, last_number, number_fields, link_fields, links_within, links, links_of, model_fields}
 
 -- the name a, the carrier B, a box, and n bytes of numbers: 7 bytes before the numbers, the kind at 6
@@ -11,10 +11,10 @@ boxed : ℕ → List ℕ
 boxed n = 1 ∷ 0 ∷ 97 ∷ 1 ∷ 0 ∷ 66 ∷ 0 ∷ replicate n 0
 
 breach : ℕ → Checked
-breach at = Refused (refusal malformed at)
+breach at = Err (refusal Cause.Malformed at)
 
 -- no links; a length that is not whole; a name past the end; a carrier past the end, by the offset of its length
-no_links : model_fields [] ≡ Passed
+no_links : model_fields [] ≡ Ok tt
 unfolding model_fields links_of links links_within
 no_links = refl
 
@@ -31,7 +31,7 @@ kinds = (refl, refl)
 numbers : (model_fields (boxed 0) ≡ breach 7)
     × (model_fields (boxed 23) ≡ breach 23)
     × (model_fields (boxed 63) ≡ breach 63)
-    × (model_fields (boxed 64) ≡ Passed)
+    × (model_fields (boxed 64) ≡ Ok tt)
     × (model_fields (boxed 55 ++ 128 ∷ replicate 8 0) ≡ breach 55)
     × (model_fields (boxed 65) ≡ breach 71)
 unfolding breach boxed model_fields links_of links links_within link_at link_fields kind_good whole_number whole_vector last_number number_fields spare little_endian

@@ -1,25 +1,24 @@
 -- Link frames: the frame that a chain's rotaries carry, each turned forth by its angle, the inner joint first. Tables stand still; heads move with the gauge point.
-use Rattle.std.specs.Prelude.{Bool, cond, ◌&&◌, List, [], ◌∷◌, ℕ, eqb, Float}
+use Rattle.std.specs.Prelude.{Bool, cond, ◌&&◌, List, [], ◌∷◌, ℕ, eqb, Float, Err, Ok, Result}
 use Rattle.geometry.specs.declared.Vec3.{Vec3}
 use Rattle.geometry.specs.declared.Rigid.{Rigid}
 use Rattle.geometry.specs.Vector.{add}
 use Rattle.geometry.specs.Turn.{turn_of}
 use Rattle.geometry.specs.Rigid.{from_axes, identity, inverse, compose}
-use Rattle.refusal.specs.Numbers.{not_finite, carrier_unknown, too_large}
+use Rattle.refusal.specs.declared.Refusal.{Refusal}
+use Rattle.refusal.specs.declared.Cause.{Cause}
+use Rattle.chain.specs.Checked.{Checked}
 use Rattle.chain.specs.declared.Mount.{Mount}
 use Rattle.chain.specs.declared.Spin.{Spin}
 use Rattle.chain.specs.declared.Prepared.{Prepared}
 use Rattle.chain.specs.declared.Turns.{Turns}
 use Rattle.chain.specs.declared.Joints.{Joints}
 use Rattle.chain.specs.declared.Kinematics.{Kinematics}
-use Rattle.chain.specs.declared.Checked.{Checked}
 use Rattle.chain.specs.Check.{demand, first_refusal, joints_finite, joints_within, chain_within}
 use Rattle.chain.specs.Forward.{head_point, head_vector, table_point, table_vector}
 use Rattle.chain.specs.Prepared.{prepared}
 use Rattle.model.specs.declared.LinkKind.{LinkKind}
 use Rattle.model.specs.declared.LinkKind.TheVariants.{Base, Table, Head, Rotary, Unknown}
-use Rattle.model.specs.declared.Placed.{Placed}
-use Rattle.model.specs.declared.Placed.TheVariants.{At, Refused}
 use Rattle.model.specs.Carrier.{carrier_kind, known}
 use Rattle.model.specs.ModelCheck.{full_check}
 
@@ -89,14 +88,14 @@ unfoldable pub frame_check : List ℕ → Kinematics → List ℕ → Joints →
 frame_check name k bytes j kind =
     first_refusal
     (full_check name k bytes
-    ∷ demand (joints_finite j) not_finite 0
-    ∷ demand (known kind) carrier_unknown 0
-    ∷ demand (frame_sizes k j) too_large 0
+    ∷ demand (joints_finite j) Cause.NotFinite 0
+    ∷ demand (known kind) Cause.CarrierUnknown 0
+    ∷ demand (frame_sizes k j) Cause.TooLarge 0
     ∷ [])
 
-abbrev pub placed_unless : Checked → Rigid → Placed
-placed_unless Checked.Passed r = At r
-placed_unless (Checked.Refused r) placed = Refused r
+abbrev pub placed_unless : Checked → Rigid → Result Rigid Refusal
+placed_unless (Ok _) r = Ok r
+placed_unless (Err r) placed = Err r
 
 abbrev pub world_frame : Kinematics → Joints → List ℕ → Rigid
 world_frame k j carrier = frame_of (prepared k) (turns_forth j.a0 j.a1) j.xyz (carrier_kind k carrier)
@@ -104,9 +103,9 @@ world_frame k j carrier = frame_of (prepared k) (turns_forth j.a0 j.a1) j.xyz (c
 abbrev pub part_frame : Kinematics → Joints → Rigid
 part_frame k j = inverse (table_frame (prepared k) (turns_forth j.a0 j.a1))
 
-unfoldable pub link_world : List ℕ → Kinematics → List ℕ → Joints → List ℕ → Placed
+unfoldable pub link_world : List ℕ → Kinematics → List ℕ → Joints → List ℕ → Result Rigid Refusal
 link_world name k bytes j carrier = placed_unless (frame_check name k bytes j (carrier_kind k carrier)) (world_frame k j carrier)
 
-unfoldable pub link_in_part : List ℕ → Kinematics → List ℕ → Joints → List ℕ → Placed
+unfoldable pub link_in_part : List ℕ → Kinematics → List ℕ → Joints → List ℕ → Result Rigid Refusal
 link_in_part name k bytes j carrier =
     placed_unless (frame_check name k bytes j (carrier_kind k carrier)) (compose (part_frame k j) (world_frame k j carrier))

@@ -1,12 +1,13 @@
 -- The bytes of a model are links to their end: a name and a carrier, each its length in two bytes and its bytes; a kind, 0 a box and 1 a cylinder; 8 numbers, of which a box uses 6 and has +0.0 for the
--- others. A breach is 29 with the offset of the first bad field: a text's is that of its length, where the length is not whole or the text not all there.
-use Rattle.std.specs.Prelude.{Bool, cond, ◌&&◌, List, [], ◌∷◌, map, ℕ, zero, suc, ◌+◌, ◌-◌, ltb, leb, length}
-use Rattle.refusal.specs.Numbers.{malformed}
-use Rattle.chain.specs.declared.Checked.{Checked}
+-- others. A breach is `Malformed` with the offset of the first bad field: a text's is that of its length, where the length is not whole or the text not all there.
+use Rattle.std.specs.Prelude.{Bool, cond, ◌&&◌, List, [], ◌∷◌, map, ℕ, zero, suc, ◌+◌, ◌-◌, ltb, leb, length, Err, Ok, Result}
+use Rattle.std.proofs.Math.Nat.{le-add_right, le_refl}
+use Rattle.refusal.specs.declared.Refusal.{Refusal}
+use Rattle.refusal.specs.declared.Cause.{Cause}
+use Rattle.chain.specs.Checked.{Checked}
 use Rattle.chain.specs.Bytes.{byte_at, little_endian, spare}
 use Rattle.chain.specs.Check.{demand, first_refusal}
 use Rattle.model.specs.declared.Link.{Link}
-use Rattle.model.specs.declared.LinkRead.{LinkRead}
 
 -- ---- a link, by where it starts
 -- past a text's length and bytes
@@ -19,6 +20,7 @@ link_at bytes at = record {
   carrier = text_end bytes at;
   kind = text_end bytes (text_end bytes at);
   end = text_end bytes (text_end bytes at) + 65;
+  in_order = (le-add_right _ _, le-add_right _ _, le_refl _);
 }
 
 -- ---- its fields
@@ -31,9 +33,9 @@ whole_number bytes at = leb (at + 8) (length bytes)
 unfoldable pub whole_vector : List ℕ → ℕ → Checked
 whole_vector bytes at =
     first_refusal
-    (demand (whole_number bytes at) malformed at
-    ∷ demand (whole_number bytes (at + 8)) malformed (at + 8)
-    ∷ demand (whole_number bytes (at + 16)) malformed (at + 16)
+    (demand (whole_number bytes at) Cause.Malformed at
+    ∷ demand (whole_number bytes (at + 8)) Cause.Malformed (at + 8)
+    ∷ demand (whole_number bytes (at + 16)) Cause.Malformed (at + 16)
     ∷ [])
 
 unfoldable pub last_number : List ℕ → ℕ → ℕ → Bool
@@ -44,24 +46,24 @@ number_fields bytes kind =
     first_refusal
     (whole_vector bytes (kind + 1)
     ∷ whole_vector bytes (kind + 25)
-    ∷ demand (last_number bytes kind (kind + 49)) malformed (kind + 49)
-    ∷ demand (last_number bytes kind (kind + 57)) malformed (kind + 57)
+    ∷ demand (last_number bytes kind (kind + 49)) Cause.Malformed (kind + 49)
+    ∷ demand (last_number bytes kind (kind + 57)) Cause.Malformed (kind + 57)
     ∷ [])
 
 unfoldable pub link_fields : List ℕ → Link → Checked
 link_fields bytes l =
     first_refusal
-    (demand (leb l.carrier (length bytes)) malformed l.name
-    ∷ demand (leb l.kind (length bytes)) malformed l.carrier
-    ∷ demand (kind_good bytes l.kind) malformed l.kind
+    (demand (leb l.carrier (length bytes)) Cause.Malformed l.name
+    ∷ demand (leb l.kind (length bytes)) Cause.Malformed l.carrier
+    ∷ demand (kind_good bytes l.kind) Cause.Malformed l.kind
     ∷ number_fields bytes l.kind
     ∷ [])
 
-abbrev pub link_unless : Checked → Link → LinkRead
-link_unless Checked.Passed l = LinkRead.Link l
-link_unless (Checked.Refused r) l = LinkRead.Refused r
+abbrev pub link_unless : Checked → Link → Result Link Refusal
+link_unless (Ok _) l = Ok l
+link_unless (Err r) l = Err r
 
-unfoldable pub read_link : List ℕ → ℕ → LinkRead
+unfoldable pub read_link : List ℕ → ℕ → Result Link Refusal
 read_link bytes at = link_unless (link_fields bytes (link_at bytes at)) (link_at bytes at)
 
 -- ---- the links that start from an offset on and before another, of which there are at most n

@@ -1,9 +1,9 @@
 -- The check of a model. Every list is in the order of the papers, and each link is checked whole before the next.
 use Rattle.std.specs.Prelude.{Bool, not, List, [], ◌∷◌, ℕ, ◌+◌, ltb, leb, length}
 use Rattle.lists.specs.Search.{any}
-use Rattle.refusal.specs.Numbers.{name_empty, name_too_long, link_name_twice, carrier_unknown, solid_bad, too_many_links}
+use Rattle.refusal.specs.declared.Cause.{Cause}
+use Rattle.chain.specs.Checked.{Checked}
 use Rattle.chain.specs.declared.Kinematics.{Kinematics}
-use Rattle.chain.specs.declared.Checked.{Checked}
 use Rattle.chain.specs.Check.{demand, first_refusal, chain_check, chain_sizes}
 use Rattle.model.specs.declared.Link.{Link}
 use Rattle.model.specs.Carrier.{carrier_kind, known}
@@ -13,7 +13,7 @@ use Rattle.model.specs.Text.{text, same_bytes}
 
 -- ---- names: 1 to 256 bytes
 unfoldable pub name_check : List ℕ → Checked
-name_check name = first_refusal (demand (ltb 0 (length name)) name_empty 0 ∷ demand (leb (length name) 256) name_too_long 0 ∷ [])
+name_check name = first_refusal (demand (ltb 0 (length name)) Cause.NameEmpty 0 ∷ demand (leb (length name) 256) Cause.NameTooLong 0 ∷ [])
 
 abbrev pub name_of : List ℕ → Link → List ℕ
 name_of bytes l = text bytes (l.name + 2) l.carrier
@@ -33,9 +33,9 @@ unfoldable pub link_check : Kinematics → List ℕ → Link → ℕ → Checked
 link_check k bytes l i =
     first_refusal
     (name_check (name_of bytes l)
-    ∷ demand (not (named_before bytes l)) link_name_twice i
-    ∷ demand (known (carrier_kind k (carrier_of bytes l))) carrier_unknown i
-    ∷ demand (good_solid_at bytes l.kind) solid_bad i
+    ∷ demand (not (named_before bytes l)) Cause.LinkNameTwice i
+    ∷ demand (known (carrier_kind k (carrier_of bytes l))) Cause.CarrierUnknown i
+    ∷ demand (good_solid_at bytes l.kind) Cause.SolidBad i
     ∷ [])
 
 -- the checks of links, of which the first has the index i
@@ -47,7 +47,7 @@ unfoldable pub each_link : Kinematics → List ℕ → Checked
 each_link k bytes = first_refusal (link_checks k bytes 0 (links_of bytes))
 
 unfoldable pub links_check : Kinematics → List ℕ → Checked
-links_check k bytes = first_refusal (demand (leb (length (links_of bytes)) 64) too_many_links 0 ∷ each_link k bytes ∷ [])
+links_check k bytes = first_refusal (demand (leb (length (links_of bytes)) 64) Cause.TooManyLinks 0 ∷ each_link k bytes ∷ [])
 
 -- ---- the Rust's check, of name, chain and model, after the model's bytes are read; and the same with the sizes
 unfoldable pub full_check : List ℕ → Kinematics → List ℕ → Checked

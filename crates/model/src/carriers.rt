@@ -3,9 +3,9 @@ ghost use Rattle.std.specs.Prelude.{◌≡◌};
 ghost use Rattle.model.specs.Carrier as S;
 
 use crate::LinkKind;
-use crate::texts::same_bytes;
 use chain::Kinematics;
 
+#[tactic(auto, unfolding(crate::specs::Carrier::rotary_named))]
 fn rotary_named(k: Kinematics, letter: u8) -> LinkKind
     ensures { result ≡ S.rotary_named k letter }
 {
@@ -27,29 +27,21 @@ fn rotary_named(k: Kinematics, letter: u8) -> LinkKind
 pub fn carrier_kind(k: Kinematics, carrier: &[u8]) -> LinkKind
     ensures { result ≡ S.carrier_kind k carrier.now }
 {
-    if same_bytes(carrier, b"base") {
-        return LinkKind::Base;
+    if carrier == b"base".as_slice() {
+        LinkKind::Base
+    } else if carrier == b"table".as_slice() {
+        LinkKind::Table
+    } else if carrier == b"head".as_slice() {
+        LinkKind::Head
+    } else if let [letter] = carrier {
+        rotary_named(k, *letter)
+    } else {
+        LinkKind::Unknown
     }
-    if same_bytes(carrier, b"table") {
-        return LinkKind::Table;
-    }
-    if same_bytes(carrier, b"head") {
-        return LinkKind::Head;
-    }
-    if carrier.len() == 1 {
-        return rotary_named(k, carrier[0]);
-    }
-    LinkKind::Unknown
 }
 
 pub fn known(kind: LinkKind) -> bool
     ensures { result ≡ S.known kind }
 {
-    match kind {
-        LinkKind::Unknown => false,
-        LinkKind::Base => true,
-        LinkKind::Table => true,
-        LinkKind::Head => true,
-        LinkKind::Rotary(_) => true,
-    }
+    !matches!(kind, LinkKind::Unknown)
 }

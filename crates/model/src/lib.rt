@@ -1,6 +1,9 @@
-// The machine model: links of solids, each named and carried by a part of the chain, read from bytes that are lent; its check, and where a link stands at given joints (check_model, link_world and
-// link_in_part of the Rust). A model stays in its bytes: a link is known by where its parts stand there.
+// The machine model: links of solids, each named and carried by a part of the chain, read from bytes that are lent; its
+// check, and where a link stands at given joints (check_model, link_world and link_in_part of the Rust). A model stays
+// in its bytes: a link is known by where its parts stand there.
 #![tactic(auto)]
+
+ghost use Rattle.std.specs.Prelude.{◌+◌, ◌≤◌, length};
 
 mod carriers;
 mod link_frame;
@@ -13,7 +16,7 @@ pub use carriers::carrier_kind;
 use geometry::{Rigid, Vec3};
 pub use link_frame::{frame_of, link_in_part, link_world, turns_forth};
 pub use link_solid::solid_at;
-pub use model_bytes::{count_links, link_at, read_link, read_model};
+pub use model_bytes::{count_links, link_at, links_in, read_link, read_model};
 pub use model_check::{check_model, full_check};
 use refusal::Refusal;
 pub use texts::{same_bytes, text};
@@ -25,13 +28,16 @@ pub struct Link {
     pub carrier: usize,
     pub kind: usize,
     pub end: usize,
+    ghost in_order: { (name + 2 ≤ carrier) × (carrier + 2 ≤ kind) × (kind + 65 ≤ end) },
 }
 
-// What stands at an offset of a model's bytes.
-#[derive(Clone, Copy)]
-pub enum LinkRead {
-    Link(Link),
-    Refused(Refusal),
+// The links that start from an offset on and before another, one behind the other.
+#[derive(Drop)]
+pub struct LinkIter<'a> {
+    bytes: &'a [u8],
+    at: usize,
+    to: usize,
+    ghost within: { to ≤ length bytes.now },
 }
 
 #[derive(Clone, Copy)]
@@ -49,17 +55,13 @@ pub enum LinkSolid {
 }
 
 // What carrier bytes name: the base, all tables, all heads, or the rotary at an index.
-#[derive(Clone, Copy)]
+#[derive(Clone, Copy, Default, PartialEq, Eq)]
 pub enum LinkKind {
+    #[default]
     Base,
     Table,
     Head,
     Rotary(u8),
+    // Nothing of the chain. As an Option, `carrier_kind` and `frame_of` would change and no call be shorter.
     Unknown,
-}
-
-#[derive(Clone, Copy)]
-pub enum Placed {
-    At(Rigid),
-    Refused(Refusal),
 }

@@ -1,17 +1,20 @@
-// Where a link stands at given joints: in the machine frame, and in the part frame. A chain runs from its inner joint outwards, each rotary turned by its angle.
+// Where a link stands at given joints: in the machine frame, and in the part frame. A chain runs from its inner joint
+// outwards, each rotary turned by its angle.
 ghost use Rattle.std.specs.Prelude.{◌≡◌};
 ghost use Rattle.model.specs.Frame as S;
 
+use crate::LinkKind;
 use crate::carriers::{carrier_kind, known};
 use crate::model_check::full_check;
-use crate::{LinkKind, Placed};
 use chain::{
-    Checked, Joints, Kinematics, Mount, Prepared, Spin, Turns, chain_within, demand, head_point,
-    head_vector, joints_finite, joints_within, prepare, table_point, table_vector, then,
+    Joints, Kinematics, Mount, Prepared, Spin, Turns, chain_within, demand, head_point,
+    head_vector, joints_finite, joints_within, prepare, table_point, table_vector,
 };
 use geometry::{Rigid, Turn, Vec3};
+use refusal::{Cause, Refusal};
 
 // Each rotary forth, by its angle.
+#[tactic(auto, unfolding(crate::specs::Frame::turns_forth))]
 pub fn turns_forth(a0: f64, a1: f64) -> Turns
     ensures { result ≡ S.turns_forth a0 a1 }
 {
@@ -20,6 +23,9 @@ pub fn turns_forth(a0: f64, a1: f64) -> Turns
     Turns { first, second }
 }
 
+// These four stay apart: one function over `table_point` or `head_point` as a parameter would be called as
+// `carried(table_point, p, turns, point)`, and its contract would be of any such function.
+#[tactic(auto, unfolding(crate::specs::Frame::table_map_point))]
 fn table_map_point(p: Prepared, turns: Turns, point: Vec3) -> Vec3
     ensures { result ≡ S.table_map_point p turns point }
 {
@@ -27,6 +33,7 @@ fn table_map_point(p: Prepared, turns: Turns, point: Vec3) -> Vec3
     table_point(p.first, turns.first, inner)
 }
 
+#[tactic(auto, unfolding(crate::specs::Frame::table_map_direction))]
 fn table_map_direction(p: Prepared, turns: Turns, v: Vec3) -> Vec3
     ensures { result ≡ S.table_map_direction p turns v }
 {
@@ -34,6 +41,7 @@ fn table_map_direction(p: Prepared, turns: Turns, v: Vec3) -> Vec3
     table_vector(p.first, turns.first, inner)
 }
 
+#[tactic(auto, unfolding(crate::specs::Frame::head_map_point))]
 fn head_map_point(p: Prepared, turns: Turns, point: Vec3) -> Vec3
     ensures { result ≡ S.head_map_point p turns point }
 {
@@ -41,6 +49,7 @@ fn head_map_point(p: Prepared, turns: Turns, point: Vec3) -> Vec3
     head_point(p.first, turns.first, inner)
 }
 
+#[tactic(auto, unfolding(crate::specs::Frame::head_map_direction))]
 fn head_map_direction(p: Prepared, turns: Turns, v: Vec3) -> Vec3
     ensures { result ≡ S.head_map_direction p turns v }
 {
@@ -49,6 +58,7 @@ fn head_map_direction(p: Prepared, turns: Turns, v: Vec3) -> Vec3
 }
 
 // The frame that the tables carry: rigid_from_spins of the table chain.
+#[tactic(auto, unfolding(crate::specs::Frame::table_frame))]
 fn table_frame(p: Prepared, turns: Turns) -> Rigid
     ensures { result ≡ S.table_frame p turns }
 {
@@ -61,17 +71,19 @@ fn table_frame(p: Prepared, turns: Turns) -> Rigid
 }
 
 // The frame that the heads carry, moved with the gauge point.
+#[tactic(auto, unfolding(crate::specs::Frame::head_frame))]
 fn head_frame(p: Prepared, turns: Turns, xyz: Vec3) -> Rigid
     ensures { result ≡ S.head_frame p turns xyz }
 {
     let still = Rigid::identity();
-    let origin = geometry::add(head_map_point(p, turns, still.origin), xyz);
+    let origin = head_map_point(p, turns, still.origin) + xyz;
     let axis_x = head_map_direction(p, turns, still.axis_x);
     let axis_y = head_map_direction(p, turns, still.axis_y);
     let axis_z = head_map_direction(p, turns, still.axis_z);
     Rigid::from_axes(origin, axis_x, axis_y, axis_z)
 }
 
+#[tactic(auto, unfolding(crate::specs::Frame::rotary_at_index))]
 fn rotary_at_index(p: Prepared, index: u8) -> Spin
     ensures { result ≡ S.rotary_at_index p index }
 {
@@ -82,6 +94,7 @@ fn rotary_at_index(p: Prepared, index: u8) -> Spin
 }
 
 // The rotaries up to and including that one.
+#[tactic(auto, unfolding(crate::specs::Frame::through))]
 fn through(p: Prepared, index: u8) -> Prepared
     ensures { result ≡ S.through p index }
 {
@@ -106,6 +119,7 @@ fn through(p: Prepared, index: u8) -> Prepared
 }
 
 // The frame of one rotary, with all that carry it.
+#[tactic(auto, unfolding(crate::specs::Frame::rotary_frame))]
 fn rotary_frame(p: Prepared, turns: Turns, xyz: Vec3, index: u8) -> Rigid
     ensures { result ≡ S.rotary_frame p turns xyz index }
 {
@@ -131,51 +145,63 @@ pub fn frame_of(p: Prepared, turns: Turns, xyz: Vec3, kind: LinkKind) -> Rigid
     }
 }
 
+#[tactic(auto, unfolding(crate::specs::Frame::frame_sizes))]
 fn frame_sizes(k: Kinematics, j: Joints) -> bool
     ensures { result ≡ S.frame_sizes k j }
 {
-    if joints_within(j) {
-        return chain_within(k);
-    }
-    false
+    joints_within(j) && chain_within(k)
 }
 
-fn frame_check(name: &[u8], k: Kinematics, bytes: &[u8], j: Joints, kind: LinkKind) -> Checked
+#[tactic(auto, unfolding(crate::specs::Frame::frame_check))]
+fn frame_check(
+    name: &[u8],
+    k: Kinematics,
+    bytes: &[u8],
+    j: Joints,
+    kind: LinkKind,
+) -> Result<(), Refusal>
     ensures { result ≡ S.frame_check name.now k bytes.now j kind }
 {
-    let model = full_check(name, k, bytes);
-    let finite = demand(joints_finite(j), refusal::NOT_FINITE, 0);
-    let carrier = demand(known(kind), refusal::CARRIER_UNKNOWN, 0);
-    let sizes = demand(frame_sizes(k, j), refusal::TOO_LARGE, 0);
-    then(model, then(finite, then(carrier, sizes)))
+    full_check(name, k, bytes)?;
+    demand(joints_finite(j), Cause::NotFinite, 0)?;
+    demand(known(kind), Cause::CarrierUnknown, 0)?;
+    demand(frame_sizes(k, j), Cause::TooLarge, 0)
 }
 
 // The placement of what the carrier bytes name, in the machine frame, or the first refusal.
-pub fn link_world(name: &[u8], k: Kinematics, bytes: &[u8], j: Joints, carrier: &[u8]) -> Placed
+#[tactic(auto, unfolding(crate::specs::Frame::link_world))]
+pub fn link_world(
+    name: &[u8],
+    k: Kinematics,
+    bytes: &[u8],
+    j: Joints,
+    carrier: &[u8],
+) -> Result<Rigid, Refusal>
     ensures { result ≡ S.link_world name.now k bytes.now j carrier.now }
 {
     let kind = carrier_kind(k, carrier);
-    let checked = frame_check(name, k, bytes, j, kind);
-    if let Checked::Refused(r) = checked {
-        return Placed::Refused(r);
-    }
+    frame_check(name, k, bytes, j, kind)?;
     let p = prepare(k);
     let turns = turns_forth(j.a0, j.a1);
-    Placed::At(frame_of(p, turns, j.xyz, kind))
+    Ok(frame_of(p, turns, j.xyz, kind))
 }
 
 // The same in the part frame, which rides on the tables.
-pub fn link_in_part(name: &[u8], k: Kinematics, bytes: &[u8], j: Joints, carrier: &[u8]) -> Placed
+#[tactic(auto, unfolding(crate::specs::Frame::link_in_part))]
+pub fn link_in_part(
+    name: &[u8],
+    k: Kinematics,
+    bytes: &[u8],
+    j: Joints,
+    carrier: &[u8],
+) -> Result<Rigid, Refusal>
     ensures { result ≡ S.link_in_part name.now k bytes.now j carrier.now }
 {
     let kind = carrier_kind(k, carrier);
-    let checked = frame_check(name, k, bytes, j, kind);
-    if let Checked::Refused(r) = checked {
-        return Placed::Refused(r);
-    }
+    frame_check(name, k, bytes, j, kind)?;
     let p = prepare(k);
     let turns = turns_forth(j.a0, j.a1);
     let world = frame_of(p, turns, j.xyz, kind);
     let part = table_frame(p, turns).inverse();
-    Placed::At(part.compose(world))
+    Ok(part.compose(world))
 }

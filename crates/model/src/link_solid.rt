@@ -2,11 +2,12 @@
 ghost use Rattle.std.specs.Prelude.{◌+◌, ◌≤◌, ◌≡◌, length};
 ghost use Rattle.model.specs.Solid as S;
 
-use crate::LinkSolid;
+use crate::{Link, LinkSolid};
 use chain::{byte_at, has_direction, number_at, vector_at};
 use geometry::{Vec3, all_finite};
 
 // The solid of the link whose kind stands there.
+#[tactic(auto, unfolding(crate::specs::Solid::solid_at))]
 pub fn solid_at(bytes: &[u8], kind: usize) -> LinkSolid
     requires { kind + 65 ≤ length bytes.now }
     ensures { result ≡ S.solid_at bytes.now kind }
@@ -29,49 +30,29 @@ pub fn solid_at(bytes: &[u8], kind: usize) -> LinkSolid
     }
 }
 
+#[tactic(auto, unfolding(crate::specs::Solid::box_good))]
 fn box_good(min: Vec3, max: Vec3) -> bool
     ensures { result ≡ S.box_good min max }
 {
-    if !all_finite(min) {
-        return false;
-    }
-    if !all_finite(max) {
-        return false;
-    }
-    if max.x > min.x {
-        if max.y > min.y {
-            return max.z > min.z;
-        }
-        return false;
-    }
-    false
+    all_finite(min) && all_finite(max) && max.x > min.x && max.y > min.y && max.z > min.z
 }
 
+#[tactic(auto, unfolding(crate::specs::Solid::positive))]
 fn positive(x: f64) -> bool
     ensures { result ≡ S.positive x }
 {
-    if float::finite(x) {
-        return x > 0.0;
-    }
-    false
+    float::finite(x) && x > 0.0
 }
 
+#[tactic(auto, unfolding(crate::specs::Solid::cylinder_good))]
 fn cylinder_good(base: Vec3, axis: Vec3, radius: f64, length: f64) -> bool
     ensures { result ≡ S.cylinder_good base axis radius length }
 {
-    if !all_finite(base) {
-        return false;
-    }
-    if !all_finite(axis) {
-        return false;
-    }
-    if !positive(radius) {
-        return false;
-    }
-    if !positive(length) {
-        return false;
-    }
-    has_direction(axis)
+    all_finite(base)
+        && all_finite(axis)
+        && positive(radius)
+        && positive(length)
+        && has_direction(axis)
 }
 
 fn solid_good(solid: LinkSolid) -> bool
@@ -89,12 +70,10 @@ fn solid_good(solid: LinkSolid) -> bool
 }
 
 // Whether a solid stands there, whole and good.
-pub fn good_solid_at(bytes: &[u8], kind: usize) -> bool
-    requires { kind ≤ length bytes.now + 131074 }
-    ensures { result ≡ S.good_solid_at bytes.now kind }
+#[tactic(auto, unfolding(crate::specs::Solid::good_solid_at))]
+pub fn good_solid_at(bytes: &[u8], link: Link) -> bool
+    ensures { result ≡ S.good_solid_at bytes.now link.kind }
 {
-    if kind + 65 <= bytes.len() {
-        return solid_good(solid_at(bytes, kind));
-    }
-    false
+    let kind = link.kind;
+    kind + 65 <= bytes.len() && solid_good(solid_at(bytes, kind))
 }

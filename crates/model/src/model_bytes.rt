@@ -1,12 +1,16 @@
-// The bytes of a model: links to the end, each of a name, a carrier, a kind and 8 numbers. A breach is 29 with the offset of the first bad field. An offset is a cursor: it goes in by value, and
-// the link hands on the next. Offsets are taken before they are known to lie within the bytes; none is more than 131,200 past them.
-ghost use Rattle.std.specs.Prelude.{◌+◌, ◌≤◌, ◌<◌, ◌≡◌, length};
+// The bytes of a model: links to the end, each of a name, a carrier, a kind and 8 numbers.
+// A breach is Malformed with the offset of the first bad field.
+// A link's offsets are taken before they are known to lie within the bytes.
+ghost use Rattle.std.specs.Prelude.{◌+◌, ◌^◌, ◌≤◌, ◌<◌, ◌≡◌, length};
+ghost use Rattle.std.specs.Iterator.{YieldsFirst, item_count};
 ghost use Rattle.model.specs.Model as S;
 
-use crate::{Link, LinkRead};
-use chain::{Checked, demand, spare, then, u16_at};
+use crate::{Link, LinkIter};
+use chain::{demand, spare, u16_at};
+use refusal::{Cause, Refusal};
 
 // The link that starts there, whole or not.
+#[tactic(auto, unfolding(crate::specs::Model::link_at))]
 pub fn link_at(bytes: &[u8], at: usize) -> Link
     requires { at ≤ length bytes.now }
     ensures { (result ≡ S.link_at bytes.now at) × (result.name ≡ at) × (result.carrier ≤ at + 65537) × (result.kind ≤ at + 131074) × (at < result.end) }
@@ -21,132 +25,146 @@ pub fn link_at(bytes: &[u8], at: usize) -> Link
     }
 }
 
+impl Iterator for LinkIter<'_> {
+    type Item = Link;
+
+    ghost next_gives = { YieldsFirst (λ s. S.links s.bytes.now s.at s.to) };
+
+    ghost remaining = { item_count (λ s. S.links s.bytes.now s.at s.to) };
+
+    fn next(&mut self) -> Option<Link> {
+        if self.to <= self.at {
+            return None;
+        }
+        let link = link_at(self.bytes, self.at);
+        self.at = link.end;
+        Some(link)
+    }
+}
+
+// Those that start before an offset.
+pub fn links_before(bytes: &[u8], to: usize) -> LinkIter<'_>
+    requires { to ≤ length bytes.now }
+    ensures { S.links result.bytes.now result.at result.to ≡ S.links bytes.now 0 to }
+{
+    LinkIter { bytes, at: 0, to }
+}
+
+// All of them.
+pub fn links_in(bytes: &[u8]) -> LinkIter<'_>
+    ensures { S.links result.bytes.now result.at result.to ≡ S.links_of bytes.now }
+{
+    links_before(bytes, bytes.len())
+}
+
 // A box or a cylinder.
+#[tactic(auto, unfolding(crate::specs::Model::kind_good))]
 fn kind_good(bytes: &[u8], kind: usize) -> bool
     ensures { result ≡ S.kind_good bytes.now kind }
 {
-    if kind < bytes.len() {
-        return bytes[kind] < 2;
-    }
-    false
+    kind < bytes.len() && bytes[kind] < 2
 }
 
+#[tactic(auto, unfolding(crate::specs::Model::whole_number))]
 fn whole_number(bytes: &[u8], at: usize) -> bool
-    requires { at ≤ length bytes.now + 131200 }
+    requires { at + 8 < 2 ^ 64 }
     ensures { result ≡ S.whole_number bytes.now at }
 {
     at + 8 <= bytes.len()
 }
 
-fn whole_vector(bytes: &[u8], at: usize) -> Checked
-    requires { at ≤ length bytes.now + 131100 }
+#[tactic(auto, unfolding(crate::specs::Model::whole_vector))]
+fn whole_vector(bytes: &[u8], at: usize) -> Result<(), Refusal>
+    requires { at + 24 < 2 ^ 64 }
     ensures { result ≡ S.whole_vector bytes.now at }
 {
-    let x = demand(whole_number(bytes, at), refusal::MALFORMED, at as u64);
-    let y = demand(
+    demand(whole_number(bytes, at), Cause::Malformed, at as u64)?;
+    demand(
         whole_number(bytes, at + 8),
-        refusal::MALFORMED,
+        Cause::Malformed,
         (at + 8) as u64,
-    );
-    let z = demand(
+    )?;
+    demand(
         whole_number(bytes, at + 16),
-        refusal::MALFORMED,
+        Cause::Malformed,
         (at + 16) as u64,
-    );
-    then(x, then(y, z))
+    )
 }
 
 // One of the last two numbers, which a box does not use.
+#[tactic(auto, unfolding(crate::specs::Model::last_number))]
 fn last_number(bytes: &[u8], kind: usize, at: usize) -> bool
-    requires { at ≤ length bytes.now + 131200 }
+    requires { at + 8 < 2 ^ 64 }
     ensures { result ≡ S.last_number bytes.now kind at }
 {
-    if at + 8 <= bytes.len() {
-        return spare(bytes, kind, at);
-    }
-    false
+    at + 8 <= bytes.len() && spare(bytes, kind, at)
 }
 
-fn number_fields(bytes: &[u8], kind: usize) -> Checked
-    requires { kind ≤ length bytes.now + 131074 }
-    ensures { result ≡ S.number_fields bytes.now kind }
+#[tactic(auto, unfolding(crate::specs::Model::number_fields))]
+fn number_fields(bytes: &[u8], link: Link) -> Result<(), Refusal>
+    ensures { result ≡ S.number_fields bytes.now link.kind }
 {
-    let first = whole_vector(bytes, kind + 1);
-    let second = whole_vector(bytes, kind + 25);
-    let seventh = demand(
+    let kind = link.kind;
+    whole_vector(bytes, kind + 1)?;
+    whole_vector(bytes, kind + 25)?;
+    demand(
         last_number(bytes, kind, kind + 49),
-        refusal::MALFORMED,
+        Cause::Malformed,
         (kind + 49) as u64,
-    );
-    let eighth = demand(
+    )?;
+    demand(
         last_number(bytes, kind, kind + 57),
-        refusal::MALFORMED,
+        Cause::Malformed,
         (kind + 57) as u64,
-    );
-    then(first, then(second, then(seventh, eighth)))
+    )
 }
 
 // What the bytes of a link must be.
-pub fn link_fields(bytes: &[u8], link: Link) -> Checked
-    requires { link.kind ≤ length bytes.now + 131074 }
+#[tactic(auto, unfolding(crate::specs::Model::link_fields))]
+pub fn link_fields(bytes: &[u8], link: Link) -> Result<(), Refusal>
     ensures { result ≡ S.link_fields bytes.now link }
 {
-    let name = demand(
+    demand(
         link.carrier <= bytes.len(),
-        refusal::MALFORMED,
+        Cause::Malformed,
         link.name as u64,
-    );
-    let carrier = demand(
+    )?;
+    demand(
         link.kind <= bytes.len(),
-        refusal::MALFORMED,
+        Cause::Malformed,
         link.carrier as u64,
-    );
-    let kind = demand(
+    )?;
+    demand(
         kind_good(bytes, link.kind),
-        refusal::MALFORMED,
+        Cause::Malformed,
         link.kind as u64,
-    );
-    let numbers = number_fields(bytes, link.kind);
-    then(name, then(carrier, then(kind, numbers)))
+    )?;
+    number_fields(bytes, link)
 }
 
 // The link that starts there, or its first breach.
-pub fn read_link(bytes: &[u8], at: usize) -> LinkRead
+#[tactic(auto, unfolding(crate::specs::Model::read_link))]
+pub fn read_link(bytes: &[u8], at: usize) -> Result<Link, Refusal>
     requires { at ≤ length bytes.now }
     ensures { result ≡ S.read_link bytes.now at }
 {
     let link = link_at(bytes, at);
-    let checked = link_fields(bytes, link);
-    if let Checked::Refused(r) = checked {
-        return LinkRead::Refused(r);
-    }
-    LinkRead::Link(link)
+    link_fields(bytes, link)?;
+    Ok(link)
 }
 
 // The first breach of the bytes, link by link.
-pub fn read_model(bytes: &[u8]) -> Checked
+pub fn read_model(bytes: &[u8]) -> Result<(), Refusal>
     ensures { result ≡ S.model_fields bytes.now }
 {
-    let mut at: usize = 0;
-    while at < bytes.len() {
-        let read = read_link(bytes, at);
-        match read {
-            LinkRead::Refused(r) => return Checked::Refused(r),
-            LinkRead::Link(link) => at = link.end,
-        }
+    for link in links_in(bytes) {
+        link_fields(bytes, link)?;
     }
-    Checked::Passed
+    Ok(())
 }
 
 pub fn count_links(bytes: &[u8]) -> usize
     ensures { result ≡ length (S.links_of bytes.now) }
 {
-    let mut at: usize = 0;
-    let mut count: usize = 0;
-    while at < bytes.len() {
-        let link = link_at(bytes, at);
-        at = link.end;
-        count += 1;
-    }
-    count
+    links_in(bytes).count()
 }

@@ -1,4 +1,4 @@
-// Texts: bytes within bytes, compared byte by byte.
+// Texts: bytes within bytes.
 ghost use Rattle.std.specs.Prelude.{◌≡◌};
 ghost use Rattle.model.specs.Text as S;
 
@@ -6,27 +6,11 @@ ghost use Rattle.model.specs.Text as S;
 pub fn text(bytes: &[u8], from: usize, to: usize) -> &[u8]
     ensures { result.now ≡ S.text bytes.now from to }
 {
-    if bytes.len() < to {
-        return &bytes[0..0];
-    }
-    if to < from {
-        return &bytes[0..0];
-    }
-    &bytes[from..to]
+    bytes.get(from..to).unwrap_or(&[])
 }
 
 pub fn same_bytes(left: &[u8], right: &[u8]) -> bool
     ensures { result ≡ S.same_bytes left.now right.now }
 {
-    if left.len() != right.len() {
-        return false;
-    }
-    let mut i: usize = 0;
-    while i < left.len() {
-        if left[i] != right[i] {
-            return false;
-        }
-        i += 1;
-    }
-    true
+    left == right
 }

@@ -5,10 +5,12 @@ use mathlib.Core.Bool.{Bool, true, false, false≢true}
 use mathlib.Core.List.{List, [], ◌∷◌}
 use lib.Ieee.{Float}
 use lib.ListN.{length}
+use Rattle.std.specs.Prelude.{Err, Ok, Option, Result}
 use Rattle.lists.proofs.Rows.{length_rows}
+use Rattle.refusal.specs.declared.Cause.{Cause}
 use Rattle.refusal.specs.declared.Refusal.{Refusal}
+use Rattle.chain.specs.Checked.{Checked}
 use Rattle.chain.proofs.Passing.{refused_passed}
-use Rattle.chain.specs.declared.Checked.{Checked}
 use Rattle.chain.specs.declared.Joints.{Joints}
 use Rattle.chain.specs.declared.Kinematics.{Kinematics}
 use Rattle.chain.specs.declared.ToolPose.{ToolPose}
@@ -16,9 +18,7 @@ use Rattle.inverse.specs.declared.Angles.{Angles}
 use Rattle.path.specs.Exact.{angles_of}
 use Rattle.path.specs.Posing.{pose_answer}
 use Rattle.path.specs.Solving.{PathAnswer, Along, AtPose, Kept, pose_from, poses_in, then_on, with_pose, solve_poses, unless_kept, solve_check, solve_checked, solve_path, checked_in}
-use Rattle.path.specs.declared.PoseAnswer.{PoseAnswer}
 use Rattle.path.specs.declared.Setup.{Setup}
-use Rattle.path.specs.declared.Start.{Start}
 
 abbrev is_along : PathAnswer → Bool
 is_along (Along l) = true
@@ -31,11 +31,11 @@ along_in (AtPose r) = []
 along_in (Kept r) = []
 
 abbrev none : Refusal
-none = record { number = 0; at = 0; letter = 0 }
+none = record { cause = Cause.PoseUnreachable; at = 0; letter = 0 }
 
 abbrev refusal_of : Checked → Refusal
-refusal_of Checked.Passed = none
-refusal_of (Checked.Refused r) = r
+refusal_of (Ok _) = none
+refusal_of (Err r) = r
 
 -- as many joint sets as n, where there are any
 abbrev AsLong : ℕ → PathAnswer → Type 0
@@ -46,9 +46,9 @@ on_long j n (Along m) h l e = ap length (sym (ap along_in e)) ∙ ap suc (h m re
 on_long j n (AtPose r) h l e = absurd (false≢true (ap is_along e))
 on_long j n (Kept r) h l e = absurd (false≢true (ap is_along e))
 
-with_long : (n : ℕ) (answer : PoseAnswer) (rest : Joints → PathAnswer) → ((j : Joints) → AsLong n (rest j)) → AsLong (suc n) (with_pose answer rest)
-with_long n (PoseAnswer.At j) rest h l e = on_long j n (rest j) (h j) l e
-with_long n (PoseAnswer.Refused r) rest h l e = absurd (false≢true (ap is_along e))
+with_long : (n : ℕ) (answer : Result Joints Refusal) (rest : Joints → PathAnswer) → ((j : Joints) → AsLong n (rest j)) → AsLong (suc n) (with_pose answer rest)
+with_long n (Ok j) rest h l e = on_long j n (rest j) (h j) l e
+with_long n (Err r) rest h l e = absurd (false≢true (ap is_along e))
 
 poses_long : (s : Setup) (poses : List ToolPose) (previous : Angles) (i : ℕ) → AsLong (length poses) (solve_poses s previous i poses)
 unfolding solve_poses
@@ -56,10 +56,10 @@ poses_long s [] previous i l e = ap length (sym (ap along_in e))
 poses_long s (pose ∷ poses) previous i l e = with_long (length poses) (pose_answer s pose previous i) _ (λ j. poses_long s poses (angles_of j) (suc i)) l e
 
 kept_long : (n : ℕ) (c : Checked) (answer : PathAnswer) → AsLong n answer → AsLong n (unless_kept c answer)
-kept_long n Checked.Passed answer h l e = h l e
-kept_long n (Checked.Refused r) answer h l e = absurd (false≢true (ap is_along e))
+kept_long n (Ok _) answer h l e = h l e
+kept_long n (Err r) answer h l e = absurd (false≢true (ap is_along e))
 
-pub along_long : (k : Kinematics) (poses : List Float) (start : Start) (cone : Float) (room : ℕ) (l : List Joints) → solve_path k poses start cone room ≡ Along l → length l ≡ length poses / 6
+pub along_long : (k : Kinematics) (poses : List Float) (start : Option Joints) (cone : Float) (room : ℕ) (l : List Joints) → solve_path k poses start cone room ≡ Along l → length l ≡ length poses / 6
 unfolding solve_path solve_checked poses_in
 along_long k poses start cone room l e =
     kept_long (length (poses_in poses)) (solve_check k start cone (length poses) room) _ (poses_long _ (poses_in poses) _ 0) l e ∙ length_rows 6 pose_from (length poses / 6) poses
@@ -75,31 +75,31 @@ on_kept j (Along m) h = refl
 on_kept j (AtPose r) h = refl
 on_kept j (Kept r) h = h
 
-with_kept : (answer : PoseAnswer) (rest : Joints → PathAnswer) → ((j : Joints) → is_kept (rest j) ≡ false) → is_kept (with_pose answer rest) ≡ false
-with_kept (PoseAnswer.At j) rest h = on_kept j (rest j) (h j)
-with_kept (PoseAnswer.Refused r) rest h = refl
+with_kept : (answer : Result Joints Refusal) (rest : Joints → PathAnswer) → ((j : Joints) → is_kept (rest j) ≡ false) → is_kept (with_pose answer rest) ≡ false
+with_kept (Ok j) rest h = on_kept j (rest j) (h j)
+with_kept (Err r) rest h = refl
 
 poses_kept : (s : Setup) (poses : List ToolPose) (previous : Angles) (i : ℕ) → is_kept (solve_poses s previous i poses) ≡ false
 unfolding solve_poses
 poses_kept s [] previous i = refl
 poses_kept s (pose ∷ poses) previous i = with_kept (pose_answer s pose previous i) _ (λ j. poses_kept s poses (angles_of j) (suc i))
 
-refused_so : (answer : PathAnswer) (r : Refusal) → is_kept answer ≡ false → checked_in answer ≡ Checked.Refused r → answer ≡ AtPose r
+refused_so : (answer : PathAnswer) (r : Refusal) → is_kept answer ≡ false → checked_in answer ≡ Err r → answer ≡ AtPose r
 refused_so (Along l) r h e = absurd (refused_passed (sym e))
 refused_so (AtPose s) r h e = ap AtPose (ap refusal_of e)
 refused_so (Kept s) r h e = absurd (false≢true (sym h))
 
-passed_so : (answer : PathAnswer) → checked_in answer ≡ Checked.Passed → answer ≡ Along (along_in answer)
+passed_so : (answer : PathAnswer) → checked_in answer ≡ Ok tt → answer ≡ Along (along_in answer)
 passed_so (Along l) e = refl
 passed_so (AtPose r) e = absurd (refused_passed e)
 passed_so (Kept r) e = absurd (refused_passed e)
 
-module _ (k : Kinematics) (poses : List Float) (start : Start) (cone : Float) where
-  pub refused_pose : (r : Refusal) → checked_in (solve_checked k poses start cone) ≡ Checked.Refused r → solve_checked k poses start cone ≡ AtPose r
+module _ (k : Kinematics) (poses : List Float) (start : Option Joints) (cone : Float) where
+  pub refused_pose : (r : Refusal) → checked_in (solve_checked k poses start cone) ≡ Err r → solve_checked k poses start cone ≡ AtPose r
   unfolding solve_checked
   refused_pose r e = refused_so _ r (poses_kept _ (poses_in poses) _ 0) e
 
-  pub solved_along : checked_in (solve_checked k poses start cone) ≡ Checked.Passed → (l : List Joints) × (solve_checked k poses start cone ≡ Along l)
+  pub solved_along : checked_in (solve_checked k poses start cone) ≡ Ok tt → (l : List Joints) × (solve_checked k poses start cone ≡ Along l)
   solved_along e = (along_in (solve_checked k poses start cone), passed_so (solve_checked k poses start cone) e)
 
 -- ---- the three ways out are apart

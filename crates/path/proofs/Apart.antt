@@ -10,15 +10,17 @@ use lib.ListN.{length}
 use lib.Ieee.{Float, binary64, lt}
 use lib.Ieee.Fits.{mul-fits}
 use lib.Ieee.Scale.{finite}
+use Rattle.std.specs.Prelude.{Err, Ok, Option}
 use Rattle.float.proofs.Commute.{mul_commutes, square_sub_symmetric}
 use Rattle.refusal.specs.declared.Refusal.{Refusal}
-use Rattle.refusal.specs.Numbers as Numbers
-use Rattle.refusal.specs.Numbers.{refusal, rotary_count, rotary_letter, letter_twice, chain_not_finite, rotary_axis_zero, limits_refused, spindle_zero, not_finite, too_large, lengths_differ, no_space, parallel_rotaries}
+use Rattle.refusal.specs.declared.Cause.{Cause}
+use Rattle.refusal.specs.Numbers.{refusal}
+use Rattle.refusal.specs.declared.Cause.{Cause}
 use Rattle.geometry.specs.declared.Vec3.{Vec3}
 use Rattle.geometry.specs.Vector.{cross, norm, dot, minus, times}
 use Rattle.geometry.specs.Direction.{all_finite}
-use Rattle.chain.specs.declared.Checked.{Checked}
-use Rattle.chain.specs.declared.Checked.TheVariants.{Passed, Refused}
+use Rattle.chain.specs.declared.Joints.{Joints}
+use Rattle.chain.specs.Checked.{Checked}
 use Rattle.chain.specs.declared.Kinematics.{Kinematics}
 use Rattle.chain.specs.declared.Mount.{Mount}
 use Rattle.chain.specs.declared.Mount.TheVariants.{Table, Head, Absent}
@@ -34,15 +36,14 @@ use Rattle.path.specs.Locking.{placed_at, locked_angles, locked_joints}
 use Rattle.path.specs.Posing.{set_up}
 use Rattle.path.specs.Solving.{Kept, whole_records, cone_good, parallel, path_chain, start_finite, path_sizes, solve_check, solve_path}
 use Rattle.path.specs.Unwinding.{unwind_angles}
-use Rattle.path.specs.declared.Start.{Start}
 
 -- ---- the chain check of a path
-pub parallel_refused : (k : Kinematics) → chain_check k ≡ Passed → parallel k ≡ true → path_chain k ≡ Refused (refusal parallel_rotaries 0)
+pub parallel_refused : (k : Kinematics) → chain_check k ≡ Ok tt → parallel k ≡ true → path_chain k ≡ Err (refusal Cause.ParallelRotaries 0)
 unfolding path_chain
 parallel_refused k p h = rw (p, h)
 
 -- a chain that its own check refuses is refused as it was
-pub chain_first : (k : Kinematics) {r : Refusal} → chain_check k ≡ Refused r → path_chain k ≡ Refused r
+pub chain_first : (k : Kinematics) {r : Refusal} → chain_check k ≡ Err r → path_chain k ≡ Err r
 unfolding path_chain
 chain_first k h = rw h
 
@@ -51,15 +52,19 @@ pub apart_kept : (k : Kinematics) → parallel k ≡ false → path_chain k ≡ 
 unfolding path_chain
 apart_kept k h = go (chain_check k) (parallel k) h
   where
-    go : (c : Checked) (b : Bool) → b ≡ false → then c (demand (not b) parallel_rotaries 0) ≡ c
-    go Passed true e = absurd (true≢false e)
-    go Passed false e = refl
-    go (Refused r) b e = refl
+    go : (c : Checked) (b : Bool) → b ≡ false → then c (demand (not b) Cause.ParallelRotaries 0) ≡ c
+    go (Ok _) true e = absurd (true≢false e)
+    go (Ok _) false e = refl
+    go (Err r) b e = refl
 
 -- ---- 30 is its own: no check of a chain answers it
+abbrev is_parallel : Cause → Bool
+is_parallel Cause.ParallelRotaries = true
+is_parallel _ = false
+
 abbrev other : Checked → Bool
-other Passed = true
-other (Refused r) = not (eqb r.number parallel_rotaries)
+other (Ok _) = true
+other (Err r) = not (is_parallel r.cause)
 
 rotary_other : (j : RotaryJoint) (earlier i : ℕ) → other (rotary_check j earlier i) ≡ true
 unfolding rotary_check
@@ -67,7 +72,7 @@ rotary_other j earlier i =
     go (known_letter j.letter) (other_letter j.letter earlier) (all_finite j.axis) (has_direction j.axis) (all_finite j.pivot) (travel_good j.limits) (finite j.rest)
   where
     go : (a b c d e f g : Bool)
-        → other (first_refusal (demand a rotary_letter i ∷ demand b letter_twice i ∷ demand c chain_not_finite i ∷ demand d rotary_axis_zero i ∷ demand e chain_not_finite i ∷ demand f limits_refused i ∷ demand g chain_not_finite i ∷ [])) ≡ true
+        → other (first_refusal (demand a Cause.RotaryLetter i ∷ demand b Cause.LetterTwice i ∷ demand c Cause.ChainNotFinite i ∷ demand d Cause.RotaryAxisZero i ∷ demand e Cause.ChainNotFinite i ∷ demand f Cause.LimitsRefused i ∷ demand g Cause.ChainNotFinite i ∷ [])) ≡ true
     go false b c d e f g = refl
     go true false c d e f g = refl
     go true true false d e f g = refl
@@ -81,7 +86,7 @@ second_other : (k : Kinematics) → other (second_check k) ≡ true
 unfolding second_check
 second_other k = go (eqb k.count 2) (rotary_check k.second k.first.letter 1) (rotary_other k.second k.first.letter 1)
   where
-    go : (two : Bool) (c : Checked) → other c ≡ true → other (cond two c Passed) ≡ true
+    go : (two : Bool) (c : Checked) → other c ≡ true → other (cond two c (Ok tt)) ≡ true
     go true c h = h
     go false c h = refl
 
@@ -92,32 +97,32 @@ chain_other k =
     (second_other k)
   where
     go : (a : Bool) (first second : Checked) (d e : Bool) → other first ≡ true → other second ≡ true
-        → other (first_refusal (demand a rotary_count 0 ∷ first ∷ second ∷ demand d chain_not_finite 0 ∷ demand e spindle_zero 0 ∷ [])) ≡ true
+        → other (first_refusal (demand a Cause.RotaryCount 0 ∷ first ∷ second ∷ demand d Cause.ChainNotFinite 0 ∷ demand e Cause.SpindleZero 0 ∷ [])) ≡ true
     go false first second d e p q = refl
-    go true (Refused r) second d e p q = p
-    go true Passed (Refused r) d e p q = q
-    go true Passed Passed false e p q = refl
-    go true Passed Passed true false p q = refl
-    go true Passed Passed true true p q = refl
+    go true (Err r) second d e p q = p
+    go true (Ok _) (Err r) d e p q = q
+    go true (Ok _) (Ok _) false e p q = refl
+    go true (Ok _) (Ok _) true false p q = refl
+    go true (Ok _) (Ok _) true true p q = refl
 
-pub exactly_parallel : (k : Kinematics) → (path_chain k ≡ Refused (refusal parallel_rotaries 0)) ↔ ((chain_check k ≡ Passed) × (parallel k ≡ true))
+pub exactly_parallel : (k : Kinematics) → (path_chain k ≡ Err (refusal Cause.ParallelRotaries 0)) ↔ ((chain_check k ≡ Ok tt) × (parallel k ≡ true))
 unfolding path_chain
 exactly_parallel k = (λ e. go (chain_check k) (parallel k) (chain_other k) e, λ h. parallel_refused k h.0 h.1)
   where
-    go : (c : Checked) (b : Bool) → other c ≡ true → then c (demand (not b) parallel_rotaries 0) ≡ Refused (refusal parallel_rotaries 0) → (c ≡ Passed) × (b ≡ true)
-    go Passed true o e = (refl, refl)
-    go Passed false o e = absurd (refused_passed (sym e))
-    go (Refused r) b o e = absurd (true≢false (sym o ∙ ap other e))
+    go : (c : Checked) (b : Bool) → other c ≡ true → then c (demand (not b) Cause.ParallelRotaries 0) ≡ Err (refusal Cause.ParallelRotaries 0) → (c ≡ Ok tt) × (b ≡ true)
+    go (Ok _) true o e = (refl, refl)
+    go (Ok _) false o e = absurd (refused_passed (sym e))
+    go (Err r) b o e = absurd (true≢false (sym o ∙ ap other e))
 
 -- ---- solve_path: 30 alone, with all kept, whatever the start, the sizes, the poses and the space; so on an empty path too
-module _ (k : Kinematics) (start : Start) (cone : Float) where
-  pub solve_parallel : (numbers room : ℕ) → whole_records numbers room ≡ true → cone_good cone ≡ true → chain_check k ≡ Passed → parallel k ≡ true
-      → solve_check k start cone numbers room ≡ Refused (refusal parallel_rotaries 0)
+module _ (k : Kinematics) (start : Option Joints) (cone : Float) where
+  pub solve_parallel : (numbers room : ℕ) → whole_records numbers room ≡ true → cone_good cone ≡ true → chain_check k ≡ Ok tt → parallel k ≡ true
+      → solve_check k start cone numbers room ≡ Err (refusal Cause.ParallelRotaries 0)
   unfolding solve_check
   solve_parallel numbers room whole good passed par = rw (whole, good, parallel_refused k passed par)
 
-  pub path_parallel : (poses : List Float) (room : ℕ) → whole_records (length poses) room ≡ true → cone_good cone ≡ true → chain_check k ≡ Passed → parallel k ≡ true
-      → solve_path k poses start cone room ≡ Kept (refusal parallel_rotaries 0)
+  pub path_parallel : (poses : List Float) (room : ℕ) → whole_records (length poses) room ≡ true → cone_good cone ≡ true → chain_check k ≡ Ok tt → parallel k ≡ true
+      → solve_path k poses start cone room ≡ Kept (refusal Cause.ParallelRotaries 0)
   unfolding solve_path
   path_parallel poses room whole good passed par = rw (solve_parallel (length poses) room whole good passed par)
 
@@ -125,12 +130,12 @@ module _ (k : Kinematics) (start : Start) (cone : Float) where
   pub solve_kept : (numbers room : ℕ) → parallel k ≡ false
       → solve_check k start cone numbers room
       ≡ first_refusal
-      (demand (whole_records numbers room) lengths_differ 0
-      ∷ demand (cone_good cone) Numbers.cone 0
+      (demand (whole_records numbers room) Cause.LengthsDiffer 0
+      ∷ demand (cone_good cone) Cause.Cone 0
       ∷ chain_check k
-      ∷ demand (start_finite start) not_finite 0
-      ∷ demand (path_sizes k start (numbers / 6)) too_large 0
-      ∷ demand (leb (numbers / 6) (room / 5)) no_space 0
+      ∷ demand (start_finite start) Cause.NotFinite 0
+      ∷ demand (path_sizes k start (numbers / 6)) Cause.TooLarge 0
+      ∷ demand (leb (numbers / 6) (room / 5)) Cause.NoSpace 0
       ∷ [])
   unfolding solve_check
   solve_kept numbers room h = rw (apart_kept k h)

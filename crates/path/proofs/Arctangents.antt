@@ -8,6 +8,7 @@ use lib.Dec.{lit≤}
 use lib.Ieee as Ieee
 use lib.Ieee.{Float, binary64, neg}
 use lib.Ieee.Fits.{neg-fits}
+use Rattle.std.specs.Prelude.{None, Option, Some}
 use Rattle.float.specs.Units.{U}
 use Rattle.float.specs.Helpers.{nought, one, size_of, clamp_unit, minimum, to_degrees}
 use Rattle.float.proofs.Bounded.{Small, finite_small, small_neg, one_small, clamp_fits}
@@ -34,15 +35,12 @@ use Rattle.inverse.specs.AxisMap.{minus_one, placed, hint_x, hint_y}
 use Rattle.inverse.specs.declared.Angles.{Angles}
 use Rattle.inverse.specs.declared.AxisMap.{AxisMap}
 use Rattle.inverse.proofs.Arctangents.{plain_sp1, sp1_plain}
+use Rattle.path.specs.declared.SingularFrame.{SingularFrame}
 use Rattle.path.specs.Singular.{in_sense, frame_on, frame_of_two, pole_clearance_deg, nearest_pole, millionth, thousandth}
 use Rattle.path.specs.Locking.{square_part, on_circle, closest_on_circle, fixed_only, toward, fit, fit_second, fit_first, fitted, locks_x, locked_x, locked_y, locked_angles}
-use Rattle.path.specs.declared.Fit.{Fit}
-use Rattle.path.specs.declared.Frame.{Frame}
-use Rattle.path.specs.declared.Frame.TheVariants.{Singular, Regular}
-use Rattle.path.specs.declared.Nearest.{Nearest}
 
 -- ---- the frame: the loop of the Rust starts from -1, and of two rotaries takes the first unless the second is nearer
-unfoldable pub loop_frame : Vec3 → Vec3 → Vec3 → Frame
+unfoldable pub loop_frame : Vec3 → Vec3 → Vec3 → Option SingularFrame
 loop_frame first second spindle =
     cond (Ieee.lt (neg one) (size_of (dot first spindle)))
     (cond (Ieee.lt (size_of (dot first spindle)) (size_of (dot second spindle)))
@@ -80,9 +78,9 @@ clearance_plain axis direction A D =
     rw (arccosine_is (clamp_unit (dot axis direction)) f r.0, arccosine_is (neg (clamp_unit (dot axis direction))) (neg-fits binary64 (clamp_unit (dot axis direction)) f) r.1)
 
 -- ---- the point nearest to a query on a circle is bounded
-abbrev NearestSmall : Nearest → Type 0
-NearestSmall (Nearest.Point c) = SmallVec 300 c
-NearestSmall Nearest.Nothing = Unit {0}
+abbrev NearestSmall : Option Vec3 → Type 0
+NearestSmall (Some c) = SmallVec 300 c
+NearestSmall None = Unit {0}
 
 square_small : (w v : Vec3) → SmallVec 1 w → SmallVec 60 v → SmallVec 70 (square_part v w)
 unfolding square_part
@@ -108,16 +106,16 @@ closest_small axis point query A P Q =
     (λ h. circle_small axis (dot axis point) (norm (square_part point axis)) (square_part query axis) A (small_dot 1 60 66 axis point (lit≤ tt) (lit≤ tt) A P) (length_small (square_part point axis) (square_small axis point A P)) (square_small axis query A Q))
 
 -- ---- the fitted angle, by subproblem 1 without its fallback
-abbrev plain_toward : Vec3 → Vec3 → Nearest → Fit
-plain_toward axis point (Nearest.Point c) = fixed_only (plain_sp1 axis point c)
-plain_toward axis point Nearest.Nothing = Fit.Nothing
+abbrev plain_toward : Vec3 → Vec3 → Option Vec3 → Option Float
+plain_toward axis point (Some c) = fixed_only (plain_sp1 axis point c)
+plain_toward axis point None = None
 
-unfoldable pub plain_fit : Vec3 → Vec3 → Vec3 → Fit
+unfoldable pub plain_fit : Vec3 → Vec3 → Vec3 → Option Float
 plain_fit axis point query = plain_toward axis point (closest_on_circle axis point query)
 
-toward_plain : (axis point : Vec3) (n : Nearest) → SmallVec 1 axis → SmallVec 60 point → NearestSmall n → toward axis point n ≡ plain_toward axis point n
-toward_plain axis point (Nearest.Point c) A P N = ap fixed_only (sp1_plain axis point c A (vec_raise 60 300 point (lit≤ tt) P) N)
-toward_plain axis point Nearest.Nothing A P N = refl
+toward_plain : (axis point : Vec3) (n : Option Vec3) → SmallVec 1 axis → SmallVec 60 point → NearestSmall n → toward axis point n ≡ plain_toward axis point n
+toward_plain axis point (Some c) A P N = ap fixed_only (sp1_plain axis point c A (vec_raise 60 300 point (lit≤ tt) P) N)
+toward_plain axis point None A P N = refl
 
 fit_plain : (axis point query : Vec3) → SmallVec 1 axis → SmallVec 60 point → SmallVec 60 query → fit axis point query ≡ plain_fit axis point query
 unfolding fit plain_fit
@@ -155,9 +153,9 @@ module _ (m : AxisMap) (spindle target : Vec3) (WA : SmallVec 1 m.wa) (Wb : Smal
   locked_plain previous X Y onSecond = rw (second_plain (times m.x_sign (hint_x m previous)) X, first_plain (times m.y_sign (hint_y m previous)) Y)
 
 -- ---- the singular direction and the poles are bounded
-abbrev pub FrameSmall : Frame → Type 0
-FrameSmall (Singular f) = SmallVec 2 f.direction
-FrameSmall Regular = Unit {0}
+abbrev pub FrameSmall : Option SingularFrame → Type 0
+FrameSmall (Some f) = SmallVec 2 f.direction
+FrameSmall None = Unit {0}
 
 sense_small : (k n : ℕ) (axis : Vec3) (along : Float) → k + 1 ≤ n → n ≤ 900 → SmallVec k axis → SmallVec n (in_sense axis along)
 unfolding in_sense

@@ -13,6 +13,7 @@ use lib.Ieee.Fits.{down_pos, neg-fits, add-fits, mul-fits}
 use lib.Ieee.Bits.{of_bits-fits}
 use lib.Ieee.Scale.{finite}
 use lib.Ieee.Positive.{num as top}
+use Rattle.std.specs.Prelude.{None, Option, Some}
 use Rattle.float.specs.Helpers.{nought, one, negative, size_of, clamp_unit, minimum, to_degrees}
 use Rattle.root.specs.Root.{root}
 use lib.Ieee.Order.{round_mono}
@@ -20,8 +21,6 @@ use Rattle.float.proofs.Bounded.{clamp_fits}
 use Rattle.float.proofs.Commute.{mul_commutes}
 use Rattle.float.proofs.Order as order
 use Rattle.float.proofs.Sizes.{size_neg}
-use Rattle.trig.specs.declared.Answer.{Answer}
-use Rattle.trig.specs.declared.Answer.TheVariants.{Value, OutOfRange}
 use Rattle.geometry.specs.declared.Vec3.{Vec3}
 use Rattle.geometry.specs.Vector.{dot}
 use Rattle.geometry.specs.Slerp.{with, half_turn_degrees}
@@ -209,10 +208,10 @@ sine_over a d = sin_sum (gap false a d 0) (2 * d * pi_den)
 
 module _ (p q k l a d L : ℕ) (Q+ : 0 < q) (L+ : 0 < l) (D+ : 0 < d) (y : 721 * q ≤ 4096 * p) (c : 64 * k ≤ 63 * l) (h : 4096 * a ≤ 715 * d) (m : L ≤ p * l + k * q) where
   v+ : 0 < 2 * d * pi_den
-  v+ = mul-pos (mul-pos (lit< tt) D+) pi_den_lem
+  v+ = mul-pos (mul-pos (lit< tt) D+) pi_den_some
     where
-      pi_den_lem : 0 < pi_den
-      pi_den_lem = unfold pi_den in lit< tt
+      pi_den_some : 0 < pi_den
+      pi_den_some = unfold pi_den in lit< tt
 
   cos_parts : ((cosine_over a d).plus ≡ num (gap false a d 0 * gap false a d 0) (2 * d * pi_den * (2 * d * pi_den)) 12 1 + (cosine_over a d).minus) × (den (2 * d * pi_den * (2 * d * pi_den)) 12 1 ≡ (cosine_over a d).over)
   cos_parts = cos_is (gap false a d 0) (2 * d * pi_den) (rest_least a d D+ h)
@@ -374,22 +373,22 @@ minimum_far x y p q = go (is_nan x) (lt y x)
     go false true = q
     go false false = p
 
-abbrev Least : Answer → Type 0
-Least (Value r) = Far r
-Least OutOfRange = Unit {0}
+abbrev Least : Option Float → Type 0
+Least (Some r) = Far r
+Least None = Unit {0}
 
 half_above : lt ten_degrees half_turn_degrees ≡ true
 unfolding of_bits lt
 half_above = refl
 
-clearance_above : (a b : Answer) → Least a → Least b → lt ten_degrees (with a half_turn_degrees (λ near. with b half_turn_degrees (λ far. to_degrees (minimum near far)))) ≡ true
-clearance_above (Value x) (Value y) p q = degrees_above (minimum x y) (minimum_far x y p q)
-clearance_above (Value x) OutOfRange p q = half_above
-clearance_above OutOfRange b p q = half_above
+clearance_above : (a b : Option Float) → Least a → Least b → lt ten_degrees (with a half_turn_degrees (λ near. with b half_turn_degrees (λ far. to_degrees (minimum near far)))) ≡ true
+clearance_above (Some x) (Some y) p q = degrees_above (minimum x y) (minimum_far x y p q)
+clearance_above (Some x) None p q = half_above
+clearance_above None b p q = half_above
 
-least_of : (c : Float) → T (fits binary64 c) → le (size_of c) wide ≡ true → le least_square (mul binary64 (sub binary64 one c) (add binary64 one c)) ≡ true → (a : Answer) → ArccosineAnswer c a → Least a
-least_of c f w h (Value r) (i, v) = (angle_least c r f i w h v, v.positive)
-least_of c f w h OutOfRange i = tt
+least_of : (c : Float) → T (fits binary64 c) → le (size_of c) wide ≡ true → le least_square (mul binary64 (sub binary64 one c) (add binary64 one c)) ≡ true → (a : Option Float) → ArccosineAnswer c a → Least a
+least_of c f w h (Some r) (i, v) = (angle_least c r f i w h v, v.positive)
+least_of c f w h None i = tt
 
 -- (1 - -c) (1 + -c) is the same product
 turned_round : (c : Float) → mul binary64 (sub binary64 one (neg c)) (add binary64 one (neg c)) ≡ mul binary64 (sub binary64 one c) (add binary64 one c)
@@ -424,6 +423,6 @@ module _ (c cone : Float) (f : T (fits binary64 c)) (h : well_outside c cone ≡
       (least_of (neg c) (neg-fits binary64 c f) (ap (λ (z : Float). le z wide) (size_neg c) ∙ not_wide) (ap (λ (z : Float). le least_square z) (turned_round c) ∙ square) (arccosine_of (neg c)) (arccosine_answer (neg c) (neg-fits binary64 c f))))
 
 -- ---- the law
-pub well_outside_lem : (frame : SingularFrame) (cone : Float) (axis : Vec3) → well_outside (clamp_unit (dot axis frame.direction)) cone ≡ true → in_singular_cone frame cone axis ≡ false
+pub outside_the_cone : (frame : SingularFrame) (cone : Float) (axis : Vec3) → well_outside (clamp_unit (dot axis frame.direction)) cone ≡ true → in_singular_cone frame cone axis ≡ false
 unfolding in_singular_cone pole_clearance_deg
-well_outside_lem frame cone axis h = order.lt_not_le cone _ (cone_below (clamp_unit (dot axis frame.direction)) cone (clamp_fits (dot axis frame.direction) (unfold dot in add-fits binary64 _ _)) h)
+outside_the_cone frame cone axis h = order.lt_not_le cone _ (cone_below (clamp_unit (dot axis frame.direction)) cone (clamp_fits (dot axis frame.direction) (unfold dot in add-fits binary64 _ _)) h)

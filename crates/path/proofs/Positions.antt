@@ -6,6 +6,7 @@ use Prim.Native.Nat.{ℕ, ◌+◌, ◌*◌, ◌^◌, ◌≤◌}
 use native.Mathlib.Omega.{arith}
 use lib.Dec.{T, lit≤}
 use lib.Ieee.{Float, binary64, neg, of_bits, fits}
+use Rattle.std.specs.Prelude.{None, Option, Some}
 use Rattle.float.specs.Units.{U, Is}
 use Rattle.float.specs.Helpers.{nought}
 use Rattle.float.proofs.Sizes.{parts_size_le}
@@ -24,10 +25,7 @@ use Rattle.chain.specs.Forward.{swing, turns_of, swing_forth, tables_forth, by_h
 use Rattle.inverse.specs.Solutions.{origin}
 use Rattle.inverse.specs.Inverse.{pose_at, misses, joints_at}
 use Rattle.inverse.specs.declared.Angles.{Angles}
-use Rattle.inverse.specs.declared.RawAngles.{RawAngles}
-use Rattle.inverse.specs.declared.RawAngles.TheVariants as Raw
 use Rattle.path.specs.Exact.{reached_by, candidate, position_finite}
-use Rattle.path.specs.declared.Candidate.{Candidate}
 
 -- ---- a sine and a cosine are at most 2
 below_small : Small 0 (neg nought)
@@ -91,17 +89,17 @@ abbrev pub SmallOf : Spin → Type 0
 SmallOf s = SmallSpin s.mount s.axis s.pivot
 
 module _ (k : ℕ) (s : Spin) (t : Turn) (v : Vec3) (l : 17 ≤ k) (h : k ≤ 600) (S : SmallOf s) (R : SmallTurn t) (A : SmallVec k v) where
-  head_point_lem : SmallVec (k + 50) (head_point s t v)
+  head_point_small : SmallVec (k + 50) (head_point s t v)
   unfolding head_point
-  head_point_lem = by_head_point k s.axis s.pivot v t l h R A s.mount S
+  head_point_small = by_head_point k s.axis s.pivot v t l h R A s.mount S
 
-  table_point_lem : SmallVec (k + 50) (table_point s t v)
+  table_point_small : SmallVec (k + 50) (table_point s t v)
   unfolding table_point
-  table_point_lem = by_table_point k s.axis s.pivot v t l h R A s.mount S
+  table_point_small = by_table_point k s.axis s.pivot v t l h R A s.mount S
 
-  table_vector_lem : SmallVec (k + 46) (table_vector s t v)
+  table_vector_small : SmallVec (k + 46) (table_vector s t v)
   unfolding table_vector
-  table_vector_lem = by_table_vector k s.axis s.pivot v t l h R A s.mount S
+  table_vector_small = by_table_vector k s.axis s.pivot v t l h R A s.mount S
 
 -- ---- the chain
 pub record SmallChain (p : Prepared) : Type 0 where
@@ -122,18 +120,18 @@ module _ (p : Prepared) (angles : Angles) (P : SmallChain p) where
   tip_small : SmallVec 220 (pose_at p angles nought).tip
   unfolding pose_at turns_of forward_core reach
   tip_small =
-      table_point_lem 170 p.second _ _ (lit≤ tt) (lit≤ tt) P.second inner
-      (table_point_lem 120 p.first _ _ (lit≤ tt) (lit≤ tt) P.first outer
+      table_point_small 170 p.second _ _ (lit≤ tt) (lit≤ tt) P.second inner
+      (table_point_small 120 p.first _ _ (lit≤ tt) (lit≤ tt) P.first outer
       (vec_add 0 118 118 120 origin _ (lit≤ tt) (lit≤ tt) (lit≤ tt) (lit≤ tt) origin_small
-      (head_point_lem 68 p.first _ _ (lit≤ tt) (lit≤ tt) P.first outer
-      (head_point_lem 18 p.second _ _ (lit≤ tt) (lit≤ tt) P.second inner
+      (head_point_small 68 p.first _ _ (lit≤ tt) (lit≤ tt) P.first outer
+      (head_point_small 18 p.second _ _ (lit≤ tt) (lit≤ tt) P.second inner
       (vec_scale 17 0 18 p.spindle (neg nought) (lit≤ tt) (lit≤ tt) P.spindle below_small)))))
 
   position_small : (tip : Vec3) → SmallVec 17 tip → SmallVec 314 (joints_at p angles tip (pose_at p angles nought).tip).xyz
   unfolding joints_at position tables_forth
   position_small tip A =
-      table_vector_lem 268 p.first _ _ (lit≤ tt) (lit≤ tt) P.first (forth_small p.first.mount angles.a0)
-      (table_vector_lem 222 p.second _ _ (lit≤ tt) (lit≤ tt) P.second (forth_small p.second.mount angles.a1)
+      table_vector_small 268 p.first _ _ (lit≤ tt) (lit≤ tt) P.first (forth_small p.first.mount angles.a0)
+      (table_vector_small 222 p.second _ _ (lit≤ tt) (lit≤ tt) P.second (forth_small p.second.mount angles.a1)
       (vec_sub 17 220 220 222 tip (pose_at p angles nought).tip (lit≤ tt) (lit≤ tt) (lit≤ tt) (lit≤ tt) A tip_small))
 
 -- ---- the law
@@ -142,10 +140,10 @@ module _ (p : Prepared) (target tip : Vec3) (P : SmallChain p) (A : SmallVec 17 
   unfolding reached_by
   reached_finite angles = go (misses (pose_at p angles nought).axis target)
     where
-      go : (b : Bool) → position_finite (cond b Candidate.Nothing (Candidate.At (joints_at p angles tip (pose_at p angles nought).tip))) ≡ true
+      go : (b : Bool) → position_finite (cond b None (Some (joints_at p angles tip (pose_at p angles nought).tip))) ≡ true
       go true = refl
       go false = vec_finite 314 (joints_at p angles tip (pose_at p angles nought).tip).xyz (position_small p angles P tip A)
 
-  pub candidate_finite : (raw : RawAngles) → position_finite (candidate p target tip raw) ≡ true
-  candidate_finite (Raw.At angles) = reached_finite angles
-  candidate_finite Raw.Nothing = refl
+  pub candidate_finite : (raw : Option Angles) → position_finite (candidate p target tip raw) ≡ true
+  candidate_finite (Some angles) = reached_finite angles
+  candidate_finite None = refl

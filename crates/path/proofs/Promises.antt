@@ -9,13 +9,14 @@ use lib.ListN.{length}
 use lib.Ieee as Ieee
 use lib.Ieee.{Float, nan, inf, fin, of_bits}
 use lib.Ieee.Scale.{finite}
+use Rattle.std.specs.Prelude.{Err, None, Ok, Option, Result, Some}
 use Rattle.float.specs.Helpers.{nought, size_of}
-use Rattle.refusal.specs.Numbers.{pose_unreachable}
+use Rattle.refusal.specs.declared.Refusal.{Refusal}
+use Rattle.refusal.specs.declared.Cause.{Cause}
 use Rattle.geometry.specs.declared.Vec3.{Vec3}
-use Rattle.geometry.specs.declared.Direction.{Direction}
 use Rattle.geometry.specs.Vector.{cross, norm}
 use Rattle.geometry.specs.Direction.{all_finite, unit_direction, along}
-use Rattle.chain.specs.declared.Checked.{Checked}
+use Rattle.chain.specs.Checked.{Checked}
 use Rattle.chain.specs.declared.Joints.{Joints}
 use Rattle.chain.specs.declared.Mount.TheVariants.{Absent}
 use Rattle.chain.specs.declared.Kinematics.{Kinematics}
@@ -23,14 +24,12 @@ use Rattle.chain.specs.declared.Prepared.{Prepared}
 use Rattle.chain.specs.declared.ToolPose.{ToolPose}
 use Rattle.chain.specs.Check.{within, all_within, longest, most_turned, joints_finite}
 use Rattle.chain.specs.Prepared.{prepared, second_spin}
+use Rattle.inverse.specs.declared.SolvedAngle.{SolvedAngle}
 use Rattle.inverse.specs.Subproblem.{shortest, sp1}
 use Rattle.inverse.specs.AxisMap.{axis_map_of}
 use Rattle.inverse.specs.Orientation.{orientation_angles, one_raw, one_joint_angles, one_angle, sign_of}
 use Rattle.inverse.specs.Inverse.{pose_at, misses, joints_at}
 use Rattle.inverse.specs.declared.Angles.{Angles}
-use Rattle.inverse.specs.declared.RawAngles.{RawAngles}
-use Rattle.inverse.specs.declared.RawAngles.TheVariants as Raw
-use Rattle.inverse.specs.declared.Solved.{Solved}
 use Rattle.path.specs.Unwinding.{unwind_angles, inside, different_branch}
 use Rattle.path.specs.Singular.{singular_frame, in_singular_cone, nearest_pole}
 use Rattle.path.specs.Locking.{refused, within_limits, finite_position, placed_at, locked_joints, strays, limited, unless_straying, cone_solution}
@@ -39,22 +38,16 @@ use Rattle.path.specs.Posing.{bounds_of, set_up, leaves_limits, succeeds, locked
 use Rattle.path.specs.Solving.{PathAnswer, Along, AtPose, Kept, then_on, with_pose, solve_poses, start_angles, poses_in, solve_check, unless_kept, solve_checked, solve_path}
 use Rattle.path.specs.Promise.{Served, OnPath}
 use Rattle.path.specs.declared.Bounds.{Bounds}
-use Rattle.path.specs.declared.Candidate.{Candidate}
-use Rattle.path.specs.declared.Frame.{Frame}
-use Rattle.path.specs.declared.Frame.TheVariants.{Singular, Regular}
-use Rattle.path.specs.declared.PoseAnswer.{PoseAnswer}
-use Rattle.path.specs.declared.PoseAnswer.TheVariants.{At, Refused}
 use Rattle.path.specs.declared.Ranked.{Ranked}
 use Rattle.path.specs.declared.Setup.{Setup}
 use Rattle.path.specs.declared.SingularFrame.{SingularFrame}
-use Rattle.path.specs.declared.Start.{Start}
 
 -- ---- of the joints of an answer
-abbrev pub Holds : (Joints → Type 0) → PoseAnswer → Type 0
-Holds P (At j) = P j
-Holds P (Refused r) = Unit {0}
+abbrev pub Holds : (Joints → Type 0) → Result Joints Refusal → Type 0
+Holds P (Ok j) = P j
+Holds P (Err r) = Unit {0}
 
-cond_holds : (P : Joints → Type 0) (b : Bool) (x y : PoseAnswer) → (b ≡ true → Holds P x) → (b ≡ false → Holds P y) → Holds P (cond b x y)
+cond_holds : (P : Joints → Type 0) (b : Bool) (x y : Result Joints Refusal) → (b ≡ true → Holds P x) → (b ≡ false → Holds P y) → Holds P (cond b x y)
 cond_holds P true x y f g = f refl
 cond_holds P false x y f g = g refl
 
@@ -65,18 +58,18 @@ Placed j = all_finite j.xyz ≡ true
 abbrev Inside : Bounds → Joints → Type 0
 Inside b j = Placed j × (inside b j ≡ true)
 
-within_limits_lem : (b : Bounds) (j : Joints) → Placed j → Holds (Inside b) (within_limits b j)
+within_limits_hold : (b : Bounds) (j : Joints) → Placed j → Holds (Inside b) (within_limits b j)
 unfolding within_limits
-within_limits_lem b j h = cond_holds (Inside b) (inside b j) (At j) _ (λ e. (h, e)) (λ e. tt)
+within_limits_hold b j h = cond_holds (Inside b) (inside b j) (Ok j) _ (λ e. (h, e)) (λ e. tt)
 
 -- ---- outside the cone
 closest_inside : (b : Bounds) (c o : Joints) → Placed c → Placed o → Holds (Inside b) (closest_or_other b c o)
 unfolding closest_or_other
 closest_inside b c o p q =
-    cond_holds (Inside b) (inside b c) (At c) _ (λ e. (p, e))
+    cond_holds (Inside b) (inside b c) (Ok c) _ (λ e. (p, e))
     (λ e. cond_holds (Inside b) (inside b o) _ (within_limits b c)
-    (λ f. cond_holds (Inside b) (different_branch b.two o c) _ (At o) (λ g. tt) (λ g. (q, f)))
-    (λ f. within_limits_lem b c p))
+    (λ f. cond_holds (Inside b) (different_branch b.two o c) _ (Ok o) (λ g. tt) (λ g. (q, f)))
+    (λ f. within_limits_hold b c p))
 
 ranked_inside : (b : Bounds) (r q : Ranked) → Placed r.joints → Placed q.joints → Holds (Inside b) (of_ranked b r q)
 unfolding of_ranked
@@ -85,19 +78,19 @@ ranked_inside b r q g h =
 
 alone_inside : (b : Bounds) (previous : Angles) (j : Joints) → Placed j → Holds (Inside b) (alone b previous j)
 unfolding alone unwound
-alone_inside b previous j h = within_limits_lem b (unwound b.two previous j) h
+alone_inside b previous j h = within_limits_hold b (unwound b.two previous j) h
 
 both_inside : (b : Bounds) (previous : Angles) (j k : Joints) → Placed j → Placed k → Holds (Inside b) (both b previous j k)
 unfolding both ranked unwound
 both_inside b previous j k g h = ranked_inside b (ranked b.two previous j) (ranked b.two previous k) g h
 
-candidates_inside : (b : Bounds) (previous : Angles) (c d : Candidate) → position_finite c ≡ true → position_finite d ≡ true → Holds (Inside b) (of_candidates b previous c d)
-candidates_inside b previous (Candidate.At j) (Candidate.At k) g h = both_inside b previous j k g h
-candidates_inside b previous (Candidate.At j) Candidate.Nothing g h = alone_inside b previous j g
-candidates_inside b previous Candidate.Nothing (Candidate.At k) g h = alone_inside b previous k h
-candidates_inside b previous Candidate.Nothing Candidate.Nothing g h = tt
+candidates_inside : (b : Bounds) (previous : Angles) (c d : Option Joints) → position_finite c ≡ true → position_finite d ≡ true → Holds (Inside b) (of_candidates b previous c d)
+candidates_inside b previous (Some j) (Some k) g h = both_inside b previous j k g h
+candidates_inside b previous (Some j) None g h = alone_inside b previous j g
+candidates_inside b previous None (Some k) g h = alone_inside b previous k h
+candidates_inside b previous None None g h = tt
 
-positions_inside : (b : Bounds) (previous : Angles) (c d : Candidate) → Holds (Inside b) (of_positions b previous c d)
+positions_inside : (b : Bounds) (previous : Angles) (c d : Option Joints) → Holds (Inside b) (of_positions b previous c d)
 unfolding of_positions
 positions_inside b previous c d =
     cond_holds (Inside b) (not (position_finite c)) _ _ (λ e. tt)
@@ -111,21 +104,21 @@ exact_inside s target tip previous = positions_inside s.bounds previous _ _
 -- ---- inside the cone
 finite_placed : (j : Joints) → Holds Placed (finite_position j)
 unfolding finite_position
-finite_placed j = cond_holds Placed (all_finite j.xyz) (At j) _ (λ e. e) (λ e. tt)
+finite_placed j = cond_holds Placed (all_finite j.xyz) (Ok j) _ (λ e. e) (λ e. tt)
 
 locked_placed : (s : Setup) (onSecond : Bool) (target tip : Vec3) (previous : Angles) → Holds Placed (locked_joints s onSecond target tip previous)
 unfolding locked_joints placed_at
 locked_placed s onSecond target tip previous =
-    cond_holds Placed (Ieee.lt (norm (cross (axis_map_of s.chain).wa (axis_map_of s.chain).wb)) shortest) (refused pose_unreachable) _
+    cond_holds Placed (Ieee.lt (norm (cross (axis_map_of s.chain).wa (axis_map_of s.chain).wb)) shortest) (refused Cause.PoseUnreachable) _
     (λ e. tt) (λ e. finite_placed _)
 
-limited_inside : (b : Bounds) (a : PoseAnswer) → Holds Placed a → Holds (Inside b) (limited b a)
-limited_inside b (At j) h = within_limits_lem b j h
-limited_inside b (Refused r) h = tt
+limited_inside : (b : Bounds) (a : Result Joints Refusal) → Holds Placed a → Holds (Inside b) (limited b a)
+limited_inside b (Ok j) h = within_limits_hold b j h
+limited_inside b (Err r) h = tt
 
-straying_inside : (s : Setup) (target : Vec3) (pole a : PoseAnswer) → Holds (Inside s.bounds) pole → Holds Placed a → Holds (Inside s.bounds) (unless_straying s target pole a)
-straying_inside s target pole (At j) g h = cond_holds (Inside s.bounds) (strays s target j) pole _ (λ e. g) (λ e. within_limits_lem s.bounds j h)
-straying_inside s target pole (Refused r) g h = tt
+straying_inside : (s : Setup) (target : Vec3) (pole a : Result Joints Refusal) → Holds (Inside s.bounds) pole → Holds Placed a → Holds (Inside s.bounds) (unless_straying s target pole a)
+straying_inside s target pole (Ok j) g h = cond_holds (Inside s.bounds) (strays s target j) pole _ (λ e. g) (λ e. within_limits_hold s.bounds j h)
+straying_inside s target pole (Err r) g h = tt
 
 cone_inside : (s : Setup) (f : SingularFrame) (target tip : Vec3) (previous : Angles) → Holds (Inside s.bounds) (cone_solution s f target tip previous)
 unfolding cone_solution
@@ -137,25 +130,25 @@ cone_inside s f target tip previous =
 
 -- ---- one pose
 -- what holds of the lock and of the exact solution holds of the one that is taken
-pub locked_or_exact_lem : (P : Joints → Type 0) (locked exact : PoseAnswer) → Holds P locked → Holds P exact → Holds P (locked_or_exact locked exact)
+pub locked_or_exact_hold : (P : Joints → Type 0) (locked exact : Result Joints Refusal) → Holds P locked → Holds P exact → Holds P (locked_or_exact locked exact)
 unfolding locked_or_exact
-locked_or_exact_lem P locked exact g h = cond_holds P (leaves_limits locked && succeeds exact) exact locked (λ e. h) (λ e. g)
+locked_or_exact_hold P locked exact g h = cond_holds P (leaves_limits locked && succeeds exact) exact locked (λ e. h) (λ e. g)
 
-frame_inside : (s : Setup) (target tip : Vec3) (previous : Angles) (f : Frame) → Holds (Inside s.bounds) (by_frame s target tip previous f)
-frame_inside s target tip previous (Singular f) =
+frame_inside : (s : Setup) (target tip : Vec3) (previous : Angles) (f : Option SingularFrame) → Holds (Inside s.bounds) (by_frame s target tip previous f)
+frame_inside s target tip previous (Some f) =
     cond_holds (Inside s.bounds) (in_singular_cone f s.cone target) _ _
-    (λ e. locked_or_exact_lem (Inside s.bounds) (cone_solution s f target tip previous) (exact_pose s target tip previous) (cone_inside s f target tip previous) (exact_inside s target tip previous))
+    (λ e. locked_or_exact_hold (Inside s.bounds) (cone_solution s f target tip previous) (exact_pose s target tip previous) (cone_inside s f target tip previous) (exact_inside s target tip previous))
     (λ e. exact_inside s target tip previous)
-frame_inside s target tip previous Regular = exact_inside s target tip previous
+frame_inside s target tip previous None = exact_inside s target tip previous
 
 -- what `P` the solution has, the pose has, with its angles within 36,000 degrees
 module _ (P : Joints → Type 0) (s : Setup) (previous : Angles) (solution : (target tip : Vec3) → Holds P (solve_one s target tip previous)) where
   abbrev pub Turned : Joints → Type 0
   Turned j = P j × (turned_within j ≡ true)
 
-  turns_hold : (a : PoseAnswer) → Holds P a → Holds Turned (with_turns a)
-  turns_hold (At j) h = cond_holds Turned (turned_within j) (At j) _ (λ e. (h, e)) (λ e. tt)
-  turns_hold (Refused r) h = tt
+  turns_hold : (a : Result Joints Refusal) → Holds P a → Holds Turned (with_turns a)
+  turns_hold (Ok j) h = cond_holds Turned (turned_within j) (Ok j) _ (λ e. (h, e)) (λ e. tt)
+  turns_hold (Err r) h = tt
 
   tip_holds : (target tip : Vec3) → Holds Turned (solved_tip s target tip previous)
   unfolding solved_tip
@@ -163,13 +156,13 @@ module _ (P : Joints → Type 0) (s : Setup) (previous : Angles) (solution : (ta
       cond_holds Turned (not (all_finite tip)) _ _ (λ e. tt)
       (λ e. cond_holds Turned (not (all_within tip longest)) _ _ (λ f. tt) (λ f. turns_hold (solve_one s target tip previous) (solution target tip)))
 
-  toward_holds : (d : Direction) (tip : Vec3) (r : PoseAnswer) → Holds Turned r → Holds Turned (along d r (λ target. solved_tip s target tip previous))
-  toward_holds (Direction.Unit target) tip r h = tip_holds target tip
-  toward_holds Direction.Nowhere tip r h = h
+  toward_holds : (d : Option Vec3) (tip : Vec3) (r : Result Joints Refusal) → Holds Turned r → Holds Turned (along d r (λ target. solved_tip s target tip previous))
+  toward_holds (Some target) tip r h = tip_holds target tip
+  toward_holds None tip r h = h
 
-  at_holds : (a : PoseAnswer) (i : ℕ) → Holds Turned a → Holds Turned (at_pose a i)
-  at_holds (At j) i h = h
-  at_holds (Refused r) i h = h
+  at_holds : (a : Result Joints Refusal) (i : ℕ) → Holds Turned a → Holds Turned (at_pose a i)
+  at_holds (Ok j) i h = h
+  at_holds (Err r) i h = h
 
   pub pose_holds : (pose : ToolPose) (i : ℕ) → Holds Turned (pose_answer s pose previous i)
   unfolding pose_answer solved_pose
@@ -181,9 +174,9 @@ on_holds P j (Along l) g h = (g, h)
 on_holds P j (AtPose r) g h = tt
 on_holds P j (Kept r) g h = tt
 
-with_holds : (P : Joints → Type 0) (a : PoseAnswer) (rest : Joints → PathAnswer) → Holds P a → ((j : Joints) → OnPath P (rest j)) → OnPath P (with_pose a rest)
-with_holds P (At j) rest g h = on_holds P j (rest j) g (h j)
-with_holds P (Refused r) rest g h = tt
+with_holds : (P : Joints → Type 0) (a : Result Joints Refusal) (rest : Joints → PathAnswer) → Holds P a → ((j : Joints) → OnPath P (rest j)) → OnPath P (with_pose a rest)
+with_holds P (Ok j) rest g h = on_holds P j (rest j) g (h j)
+with_holds P (Err r) rest g h = tt
 
 poses_hold : (P : Joints → Type 0) (s : Setup) → ((pose : ToolPose) (previous : Angles) (i : ℕ) → Holds P (pose_answer s pose previous i))
     → (l : List ToolPose) (previous : Angles) (i : ℕ) → OnPath P (solve_poses s previous i l)
@@ -195,51 +188,51 @@ poses_hold P s f (pose ∷ l) previous i = with_holds P (pose_answer s pose prev
 abbrev Unused : Joints → Type 0
 Unused j = j.a1 ≡ nought
 
-abbrev RawUnused : RawAngles → Type 0
-RawUnused (Raw.At a) = a.a1 ≡ nought
-RawUnused Raw.Nothing = Unit {0}
+abbrev RawUnused : Option Angles → Type 0
+RawUnused (Some a) = a.a1 ≡ nought
+RawUnused None = Unit {0}
 
-abbrev CandidateUnused : Candidate → Type 0
-CandidateUnused (Candidate.At j) = Unused j
-CandidateUnused Candidate.Nothing = Unit {0}
+abbrev CandidateUnused : Option Joints → Type 0
+CandidateUnused (Some j) = Unused j
+CandidateUnused None = Unit {0}
 
-angle_unused : (a : Solved) (sign : Float) (hint : Angles) → RawUnused (one_angle a sign hint)
-angle_unused (Solved.Angle x) sign hint = refl
-angle_unused Solved.Nothing sign hint = tt
+angle_unused : (a : Option SolvedAngle) (sign : Float) (hint : Angles) → RawUnused (one_angle a sign hint)
+angle_unused (Some x) sign hint = refl
+angle_unused None sign hint = tt
 
 reached_unused : (p : Prepared) (target tip : Vec3) (a : Angles) → a.a1 ≡ nought → CandidateUnused (reached_by p target tip a)
 unfolding reached_by joints_at
 reached_unused p target tip a h = go (misses (pose_at p a nought).axis target)
   where
-    go : (b : Bool) → CandidateUnused (cond b Candidate.Nothing (Candidate.At (joints_at p a tip (pose_at p a nought).tip)))
+    go : (b : Bool) → CandidateUnused (cond b None (Some (joints_at p a tip (pose_at p a nought).tip)))
     go true = tt
     go false = h
 
-candidate_unused : (p : Prepared) (target tip : Vec3) (raw : RawAngles) → RawUnused raw → CandidateUnused (candidate p target tip raw)
-candidate_unused p target tip (Raw.At a) h = reached_unused p target tip a h
-candidate_unused p target tip Raw.Nothing h = tt
+candidate_unused : (p : Prepared) (target tip : Vec3) (raw : Option Angles) → RawUnused raw → CandidateUnused (candidate p target tip raw)
+candidate_unused p target tip (Some a) h = reached_unused p target tip a h
+candidate_unused p target tip None h = tt
 
 limits_unused : (b : Bounds) (j : Joints) → Unused j → Holds Unused (within_limits b j)
 unfolding within_limits
-limits_unused b j h = cond_holds Unused (inside b j) (At j) _ (λ e. h) (λ e. tt)
+limits_unused b j h = cond_holds Unused (inside b j) (Ok j) _ (λ e. h) (λ e. tt)
 
-candidates_unused : (b : Bounds) (previous : Angles) (c : Candidate) → b.two ≡ false → CandidateUnused c → Holds Unused (of_positions b previous c Candidate.Nothing)
+candidates_unused : (b : Bounds) (previous : Angles) (c : Option Joints) → b.two ≡ false → CandidateUnused c → Holds Unused (of_positions b previous c None)
 unfolding of_positions alone unwound unwind_angles
-candidates_unused b previous (Candidate.At j) e h =
+candidates_unused b previous (Some j) e h =
     cond_holds Unused (not (all_finite j.xyz)) _ _ (λ f. tt) (λ f. limits_unused b (unwound b.two previous j) (rw e h))
-candidates_unused b previous Candidate.Nothing e h = tt
+candidates_unused b previous None e h = tt
 
-second_none : (p : Prepared) (target tip : Vec3) (c : Candidate) → second_candidate p target tip c Raw.Nothing ≡ Candidate.Nothing
+second_none : (p : Prepared) (target tip : Vec3) (c : Option Joints) → second_candidate p target tip c None ≡ None
 unfolding second_candidate
-second_none p target tip (Candidate.At j) = refl
-second_none p target tip Candidate.Nothing = refl
+second_none p target tip (Some j) = refl
+second_none p target tip None = refl
 
 module _ (k : Kinematics) (cone : Float) (one : eqb k.count 2 ≡ false) where
   absent : (prepared k).second.mount ≡ Absent
   unfolding prepared second_spin
   absent = rw one
 
-  regular : singular_frame (prepared k) ≡ Regular
+  regular : singular_frame (prepared k) ≡ None
   unfolding singular_frame
   regular = rw absent
 
@@ -277,17 +270,17 @@ both_finite j g h =
     rw (g, within_finite j.a0 t.0, within_finite j.a1 t.1)
 
 -- ---- all of it
-pub holds_map : (P Q : Joints → Type 0) → ((j : Joints) → P j → Q j) → (a : PoseAnswer) → Holds P a → Holds Q a
-holds_map P Q f (At j) h = f j h
-holds_map P Q f (Refused r) h = tt
+pub holds_map : (P Q : Joints → Type 0) → ((j : Joints) → P j → Q j) → (a : Result Joints Refusal) → Holds P a → Holds Q a
+holds_map P Q f (Ok j) h = f j h
+holds_map P Q f (Err r) h = tt
 
 -- within the limits, and where something is so, with an unused angle of +0.0
 abbrev Whole : Bounds → Type 0 → Joints → Type 0
 Whole b one j = Inside b j × (one → Unused j)
 
-holds_both : (b : Bounds) (one : Type 0) (a : PoseAnswer) → Holds (Inside b) a → (one → Holds Unused a) → Holds (Whole b one) a
-holds_both b one (At j) g h = (g, h)
-holds_both b one (Refused r) g h = tt
+holds_both : (b : Bounds) (one : Type 0) (a : Result Joints Refusal) → Holds (Inside b) a → (one → Holds Unused a) → Holds (Whole b one) a
+holds_both b one (Ok j) g h = (g, h)
+holds_both b one (Err r) g h = tt
 
 pose_served : (k : Kinematics) (cone : Float) (pose : ToolPose) (previous : Angles) (i : ℕ) → Holds (Served k) (pose_answer (set_up k cone) pose previous i)
 unfolding solve_one set_up
@@ -304,10 +297,10 @@ pose_served k cone pose previous i =
 
 -- every joint set of a path that is solved
 kept_served : (P : Joints → Type 0) (c : Checked) (a : PathAnswer) → OnPath P a → OnPath P (unless_kept c a)
-kept_served P Checked.Passed a h = h
-kept_served P (Checked.Refused r) a h = tt
+kept_served P (Ok _) a h = h
+kept_served P (Err r) a h = tt
 
-pub path_served : (k : Kinematics) (poses : List Float) (start : Start) (cone : Float) (room : ℕ) → OnPath (Served k) (solve_path k poses start cone room)
+pub path_served : (k : Kinematics) (poses : List Float) (start : Option Joints) (cone : Float) (room : ℕ) → OnPath (Served k) (solve_path k poses start cone room)
 unfolding solve_path solve_checked
 path_served k poses start cone room =
     kept_served (Served k) (solve_check k start cone (length poses) room) _

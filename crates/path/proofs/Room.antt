@@ -7,13 +7,14 @@ use mathlib.Core.Bool.{Bool, true, false, not, cond, ◌&&◌, and-eq-true_iff}
 use borrow.Author.Tests.{leb-true}
 use lib.Dec.{T, eqb, leb, lit≤}
 use lib.Ieee.{Float, binary64, fits}
-use Rattle.refusal.specs.Numbers as Numbers
+use Rattle.std.specs.Prelude.{None, Ok, Option, Some}
+use Rattle.refusal.specs.declared.Cause.{Cause}
 use Rattle.float.specs.Helpers.{nought}
 use Rattle.float.proofs.UpTo.{up_to_more, nought_up_to}
 use Rattle.geometry.specs.declared.Vec3.{Vec3}
 use Rattle.geometry.proofs.UnitSize.{UnitSized}
+use Rattle.chain.specs.declared.Joints.{Joints}
 use Rattle.chain.specs.declared.Carrier.{Carrier}
-use Rattle.chain.specs.declared.Checked.TheVariants.{Passed}
 use Rattle.chain.specs.declared.RotaryJoint.{RotaryJoint}
 use Rattle.chain.specs.declared.Kinematics.{Kinematics}
 use Rattle.chain.specs.declared.Mount.{Mount}
@@ -29,27 +30,25 @@ use Rattle.path.specs.Closest.{bounded_spin, bounded}
 use Rattle.path.specs.Posing.{set_up}
 use Rattle.path.specs.Solving.{whole_records, cone_good, parallel, path_chain, start_finite, start_within, start_angles, path_sizes, solve_check}
 use Rattle.path.specs.declared.Setup.{Setup}
-use Rattle.path.specs.declared.Start.{Start}
-use Rattle.path.specs.declared.Start.TheVariants.{AtZero, From}
 use Rattle.path.proofs.Positions.{vec_within}
 
 fifths : (a b : ℕ) → a ≤ b / 5 → a * 5 ≤ b
 fifths a b h = omega arith
 
 -- the check of a chain is part of that of a path
-pub chain_of_path : (k : Kinematics) → path_chain k ≡ Passed → chain_check k ≡ Passed
+pub chain_of_path : (k : Kinematics) → path_chain k ≡ Ok tt → chain_check k ≡ Ok tt
 unfolding path_chain
-chain_of_path k e = (then_passed (chain_check k) (demand (not (parallel k)) Numbers.parallel_rotaries 0) e).0
+chain_of_path k e = (then_passed (chain_check k) (demand (not (parallel k)) Cause.ParallelRotaries 0) e).0
 
 -- the angles of a start are doubles
-abbrev pub StartFits : Start → Type 0
-StartFits AtZero = Unit {0}
-StartFits (From j) = T (fits binary64 j.a0) × T (fits binary64 j.a1)
+abbrev pub StartFits : Option Joints → Type 0
+StartFits None = Unit {0}
+StartFits (Some j) = T (fits binary64 j.a0) × T (fits binary64 j.a1)
 
-start_up_to : (start : Start) → StartFits start → start_within start ≡ true → PairUpTo 36000 (start_angles start)
+start_up_to : (start : Option Joints) → StartFits start → start_within start ≡ true → PairUpTo 36000 (start_angles start)
 unfolding joints_within
-start_up_to AtZero f h = (up_to_more 0 36000 nought (lit≤ tt) nought_up_to, up_to_more 0 36000 nought (lit≤ tt) nought_up_to)
-start_up_to (From j) f h =
+start_up_to None f h = (up_to_more 0 36000 nought (lit≤ tt) nought_up_to, up_to_more 0 36000 nought (lit≤ tt) nought_up_to)
+start_up_to (Some j) f h =
     let a = (and-eq-true_iff (all_within j.xyz farthest && within j.a0 most_turned) (within j.a1 most_turned)).0 h in
     let b = (and-eq-true_iff (all_within j.xyz farthest) (within j.a0 most_turned)).0 a.0 in
     (within_up_to j.a0 f.0 b.1, within_up_to j.a1 f.1 a.1)
@@ -91,26 +90,26 @@ units_bounded k C w =
     rw (first_bounded k.first.carrier _ k.first.pivot C.first (pivot_within k.first p.0), second_bounded k C.second p.1, vec_within _ C.spindle.small)
 
 -- ---- what the list of checks says
-module _ (k : Kinematics) (start : Start) (cone : Float) (numbers room : ℕ) (passed : solve_check k start cone numbers room ≡ Passed) where
-  parts : SixPassed (demand (whole_records numbers room) Numbers.lengths_differ 0) (demand (cone_good cone) Numbers.cone 0) (path_chain k) (demand (start_finite start) Numbers.not_finite 0) (demand (path_sizes k start (numbers / 6)) Numbers.too_large 0) (demand (leb (numbers / 6) (room / 5)) Numbers.no_space 0)
+module _ (k : Kinematics) (start : Option Joints) (cone : Float) (numbers room : ℕ) (passed : solve_check k start cone numbers room ≡ Ok tt) where
+  parts : SixPassed (demand (whole_records numbers room) Cause.LengthsDiffer 0) (demand (cone_good cone) Cause.Cone 0) (path_chain k) (demand (start_finite start) Cause.NotFinite 0) (demand (path_sizes k start (numbers / 6)) Cause.TooLarge 0) (demand (leb (numbers / 6) (room / 5)) Cause.NoSpace 0)
   unfolding solve_check
   parts =
-      six_passed (demand (whole_records numbers room) Numbers.lengths_differ 0) (demand (cone_good cone) Numbers.cone 0) (path_chain k) (demand (start_finite start) Numbers.not_finite 0) (demand (path_sizes k start (numbers / 6)) Numbers.too_large 0) (demand (leb (numbers / 6) (room / 5)) Numbers.no_space 0) passed
+      six_passed (demand (whole_records numbers room) Cause.LengthsDiffer 0) (demand (cone_good cone) Cause.Cone 0) (path_chain k) (demand (start_finite start) Cause.NotFinite 0) (demand (path_sizes k start (numbers / 6)) Cause.TooLarge 0) (demand (leb (numbers / 6) (room / 5)) Cause.NoSpace 0) passed
 
   pub room_passed : numbers / 6 * 5 ≤ room
-  room_passed = fifths (numbers / 6) room (leb-true (numbers / 6) (room / 5) (demand_passed (leb (numbers / 6) (room / 5)) Numbers.no_space 0 parts.sixth))
+  room_passed = fifths (numbers / 6) room (leb-true (numbers / 6) (room / 5) (demand_passed (leb (numbers / 6) (room / 5)) Cause.NoSpace 0 parts.sixth))
 
-  pub chain_passed : chain_check k ≡ Passed
+  pub chain_passed : chain_check k ≡ Ok tt
   chain_passed = chain_of_path k parts.third
 
   sizes : (chain_within k ≡ true) × (start_within start ≡ true)
   unfolding path_sizes
   sizes =
-      let r = (and-eq-true_iff (chain_within k && start_within start) (leb (numbers / 6) 100000)).0 (demand_passed (path_sizes k start (numbers / 6)) Numbers.too_large 0 parts.fifth) in
+      let r = (and-eq-true_iff (chain_within k && start_within start) (leb (numbers / 6) 100000)).0 (demand_passed (path_sizes k start (numbers / 6)) Cause.TooLarge 0 parts.fifth) in
       (and-eq-true_iff (chain_within k) (start_within start)).0 r.0
 
-  pub start_within_lem : StartFits start → PairUpTo 36000 (start_angles start)
-  start_within_lem f = start_up_to start f sizes.1
+  pub start_turned : StartFits start → PairUpTo 36000 (start_angles start)
+  start_turned f = start_up_to start f sizes.1
 
   pub chain_bounded : FitAxes k → bounded (prepared k) ≡ true
   chain_bounded F = units_bounded k (chain_units k F chain_passed) sizes.0

@@ -9,16 +9,15 @@ use mathlib.Core.Path.{◌≡◌, refl, sym, ap, ◌∙◌}
 use mathlib.Core.Bool.{Bool, true, false, not, cond, ◌&&◌, true≢false}
 use mathlib.Core.Logic.{◌⊎◌, inl, inr}
 use mathlib.Core.List.{List, [], ◌∷◌, ◌++◌}
-use lib.Dec.{eqb}
 use lib.Ieee.{Float}
 use lib.ListN.{length, get_or, take}
 use lib.Seq.{take_at, get_or_at}
-use Rattle.refusal.specs.Numbers.{not_finite, too_large, leaves_axis, pose_unreachable}
+use Rattle.std.specs.Prelude.{Err, None, Ok, Option, Result, Some}
+use Rattle.refusal.specs.declared.Cause.{Cause}
 use Rattle.refusal.specs.declared.Refusal.{Refusal}
 use Rattle.geometry.specs.declared.Vec3.{Vec3}
-use Rattle.geometry.specs.declared.Direction.{Direction}
 use Rattle.geometry.specs.Direction.{all_finite, unit_direction, along}
-use Rattle.chain.specs.declared.Checked.{Checked}
+use Rattle.chain.specs.Checked.{Checked}
 use Rattle.chain.specs.declared.Joints.{Joints}
 use Rattle.chain.specs.declared.Kinematics.{Kinematics}
 use Rattle.chain.specs.declared.ToolPose.{ToolPose}
@@ -27,26 +26,21 @@ use Rattle.inverse.specs.declared.Angles.{Angles}
 use Rattle.path.specs.Singular.{in_singular_cone}
 use Rattle.path.specs.Locking.{refused, cone_solution}
 use Rattle.path.specs.Exact.{angles_of, exact_pose}
-use Rattle.path.specs.Posing.{set_up, turned_within, leaves_limits, succeeds, locked_or_exact, by_frame, solve_one, with_turns, solved_tip, solved_pose, at_pose, pose_answer}
+use Rattle.path.specs.Posing.{set_up, turned_within, is_limit, leaves_limits, succeeds, locked_or_exact, by_frame, solve_one, with_turns, solved_tip, solved_pose, at_pose, pose_answer}
 use Rattle.path.specs.Solving.{PathAnswer, Along, AtPose, Kept, then_on, with_pose, solve_poses, poses_in, start_angles, solve_check, unless_kept, solve_checked, solve_path}
-use Rattle.path.specs.declared.Frame.{Frame}
-use Rattle.path.specs.declared.Frame.TheVariants.{Singular, Regular}
-use Rattle.path.specs.declared.PoseAnswer.{PoseAnswer}
-use Rattle.path.specs.declared.PoseAnswer.TheVariants.{At, Refused}
 use Rattle.path.specs.declared.Setup.{Setup}
 use Rattle.path.specs.declared.SingularFrame.{SingularFrame}
-use Rattle.path.specs.declared.Start.{Start}
 use Rattle.path.proofs.Along.{at_pose_one, along_one, at_pose_along, at_pose_kept}
 use Rattle.path.proofs.Walking.{before}
 
 -- ---- inside the cone, of the lock's answer and the exact rule's
 -- the lock stands where it does not leave the limits: solved, and refused for anything else
-pub lock_stands : (locked exact : PoseAnswer) → leaves_limits locked ≡ false → locked_or_exact locked exact ≡ locked
+pub lock_stands : (locked exact : Result Joints Refusal) → leaves_limits locked ≡ false → locked_or_exact locked exact ≡ locked
 unfolding locked_or_exact
 lock_stands locked exact h = rw h
 
 -- and its refusal stands, the letter too, where the exact rule fails: by a refusal, or by an angle past 36,000
-pub refusal_stands : (locked exact : PoseAnswer) → succeeds exact ≡ false → locked_or_exact locked exact ≡ locked
+pub refusal_stands : (locked exact : Result Joints Refusal) → succeeds exact ≡ false → locked_or_exact locked exact ≡ locked
 unfolding locked_or_exact
 refusal_stands locked exact h = go (leaves_limits locked) (succeeds exact) h
   where
@@ -56,31 +50,31 @@ refusal_stands locked exact h = go (leaves_limits locked) (succeeds exact) h
     go false t e = refl
 
 -- else the exact solution is taken
-pub exact_taken : (locked exact : PoseAnswer) → leaves_limits locked ≡ true → succeeds exact ≡ true → locked_or_exact locked exact ≡ exact
+pub exact_taken : (locked exact : Result Joints Refusal) → leaves_limits locked ≡ true → succeeds exact ≡ true → locked_or_exact locked exact ≡ exact
 unfolding locked_or_exact
 exact_taken locked exact h t = rw (h, t)
 
 -- ---- the rule before, as `Posing` and `Solving` had it
-abbrev pub frame_before : Setup → Vec3 → Vec3 → Angles → Frame → PoseAnswer
-frame_before s target tip previous (Singular f) =
+abbrev pub frame_before : Setup → Vec3 → Vec3 → Angles → Option SingularFrame → Result Joints Refusal
+frame_before s target tip previous (Some f) =
     cond (in_singular_cone f s.cone target) (cone_solution s f target tip previous) (exact_pose s target tip previous)
-frame_before s target tip previous Regular = exact_pose s target tip previous
+frame_before s target tip previous None = exact_pose s target tip previous
 
-unfoldable pub tip_before : Setup → Vec3 → Vec3 → Angles → PoseAnswer
+unfoldable pub tip_before : Setup → Vec3 → Vec3 → Angles → Result Joints Refusal
 tip_before s target tip previous =
-    cond (not (all_finite tip)) (refused not_finite)
-    (cond (not (all_within tip longest)) (refused too_large)
+    cond (not (all_finite tip)) (refused Cause.NotFinite)
+    (cond (not (all_within tip longest)) (refused Cause.TooLarge)
     (with_turns (frame_before s target tip previous s.frame)))
 
-unfoldable pub pose_before : Setup → ToolPose → Angles → ℕ → PoseAnswer
+unfoldable pub pose_before : Setup → ToolPose → Angles → ℕ → Result Joints Refusal
 pose_before s pose previous index =
-    at_pose (along (unit_direction pose.axis) (refused pose_unreachable) (λ target. tip_before s target pose.tip previous)) index
+    at_pose (along (unit_direction pose.axis) (refused Cause.PoseUnreachable) (λ target. tip_before s target pose.tip previous)) index
 
 unfoldable pub poses_before : Setup → Angles → ℕ → List ToolPose → PathAnswer
 poses_before s previous i [] = Along []
 poses_before s previous i (pose ∷ l) = with_pose (pose_before s pose previous i) (λ j. poses_before s (angles_of j) (suc i) l)
 
-unfoldable pub path_before : Kinematics → List Float → Start → Float → ℕ → PathAnswer
+unfoldable pub path_before : Kinematics → List Float → Option Joints → Float → ℕ → PathAnswer
 path_before k poses start cone room =
     unless_kept (solve_check k start cone (length poses) room) (poses_before (set_up k cone) (start_angles start) 0 (poses_in poses))
 
@@ -92,19 +86,19 @@ pub record Changed (s : Setup) (pose : ToolPose) (previous : Angles) : Type 0 wh
   pub frame : SingularFrame
   pub left : Refusal
   pub joints : Joints
-  pub axis : unit_direction pose.axis ≡ Direction.Unit target
+  pub axis : unit_direction pose.axis ≡ Some target
   pub finite : all_finite pose.tip ≡ true
   pub sized : all_within pose.tip longest ≡ true
-  pub singular : s.frame ≡ Singular frame
+  pub singular : s.frame ≡ Some frame
   pub cone : in_singular_cone frame s.cone target ≡ true
-  pub lock : cone_solution s frame target pose.tip previous ≡ Refused left
-  pub leaves : eqb left.number leaves_axis ≡ true
-  pub exact : exact_pose s target pose.tip previous ≡ At joints
+  pub lock : cone_solution s frame target pose.tip previous ≡ Err left
+  pub leaves : is_limit left.cause ≡ true
+  pub exact : exact_pose s target pose.tip previous ≡ Ok joints
   pub turns : turned_within joints ≡ true
 
 -- the lock's refusal at a pose
 abbrev pub left_at : Refusal → ℕ → Refusal
-left_at r i = record { number = r.number; at = i; letter = r.letter }
+left_at r i = record { cause = r.cause; at = i; letter = r.letter }
 
 on_left : {A B C : Type 0} → (A → B) → A ⊎ C → B ⊎ C
 on_left f (inl a) = inl (f a)
@@ -113,43 +107,43 @@ on_left f (inr c) = inr c
 module _ (s : Setup) (pose : ToolPose) (previous : Angles) where
   -- such a pose was refused as the lock refuses it, and has the exact solution now
   module _ (c : Changed s pose previous) where
-    frame_left : frame_before s c.target pose.tip previous s.frame ≡ Refused c.left
+    frame_left : frame_before s c.target pose.tip previous s.frame ≡ Err c.left
     frame_left = ap (frame_before s c.target pose.tip previous) c.singular ∙ locked
       where
-        locked : frame_before s c.target pose.tip previous (Singular c.frame) ≡ Refused c.left
+        locked : frame_before s c.target pose.tip previous (Some c.frame) ≡ Err c.left
         locked = rw (c.cone, c.lock)
 
-    frame_exact : by_frame s c.target pose.tip previous s.frame ≡ At c.joints
+    frame_exact : by_frame s c.target pose.tip previous s.frame ≡ Ok c.joints
     frame_exact = ap (by_frame s c.target pose.tip previous) c.singular ∙ inside ∙ taken
       where
-        locked : PoseAnswer
+        locked : Result Joints Refusal
         locked = cone_solution s c.frame c.target pose.tip previous
 
-        inside : by_frame s c.target pose.tip previous (Singular c.frame) ≡ locked_or_exact locked (exact_pose s c.target pose.tip previous)
+        inside : by_frame s c.target pose.tip previous (Some c.frame) ≡ locked_or_exact locked (exact_pose s c.target pose.tip previous)
         inside = rw c.cone
 
-        taken : locked_or_exact locked (exact_pose s c.target pose.tip previous) ≡ At c.joints
-        taken = rw (c.lock, c.exact) (exact_taken (Refused c.left) (At c.joints) c.leaves c.turns)
+        taken : locked_or_exact locked (exact_pose s c.target pose.tip previous) ≡ Ok c.joints
+        taken = rw (c.lock, c.exact) (exact_taken (Err c.left) (Ok c.joints) c.leaves c.turns)
 
-    pub changed_before : (i : ℕ) → pose_before s pose previous i ≡ Refused (left_at c.left i)
+    pub changed_before : (i : ℕ) → pose_before s pose previous i ≡ Err (left_at c.left i)
     unfolding pose_before tip_before
     changed_before i = rw (c.axis, c.finite, c.sized, frame_left)
 
-    pub changed_now : (i : ℕ) → pose_answer s pose previous i ≡ At c.joints
+    pub changed_now : (i : ℕ) → pose_answer s pose previous i ≡ Ok c.joints
     unfolding pose_answer solved_pose solved_tip solve_one
     changed_now i = rw (c.axis, c.finite, c.sized, frame_exact, c.turns)
 
   -- every other pose is answered as before
-  module _ (target : Vec3) (axis : unit_direction pose.axis ≡ Direction.Unit target) where
+  module _ (target : Vec3) (axis : unit_direction pose.axis ≡ Some target) where
     module _ (finite : all_finite pose.tip ≡ true) (sized : all_within pose.tip longest ≡ true) where
-      lock_changes : (f : SingularFrame) → s.frame ≡ Singular f → in_singular_cone f s.cone target ≡ true
-          → (locked exact : PoseAnswer) → cone_solution s f target pose.tip previous ≡ locked → exact_pose s target pose.tip previous ≡ exact
+      lock_changes : (f : SingularFrame) → s.frame ≡ Some f → in_singular_cone f s.cone target ≡ true
+          → (locked exact : Result Joints Refusal) → cone_solution s f target pose.tip previous ≡ locked → exact_pose s target pose.tip previous ≡ exact
           → (locked_or_exact locked exact ≡ locked) ⊎ Changed s pose previous
-      lock_changes f singular cone (At j) exact lock e = inl (lock_stands (At j) exact refl)
-      lock_changes f singular cone (Refused r) (Refused q) lock e = inl (refusal_stands (Refused r) (Refused q) refl)
-      lock_changes f singular cone (Refused r) (At j) lock e = go (eqb r.number leaves_axis) (turned_within j) refl refl
+      lock_changes f singular cone (Ok j) exact lock e = inl (lock_stands (Ok j) exact refl)
+      lock_changes f singular cone (Err r) (Err q) lock e = inl (refusal_stands (Err r) (Err q) refl)
+      lock_changes f singular cone (Err r) (Ok j) lock e = go (is_limit r.cause) (turned_within j) refl refl
         where
-          go : (b t : Bool) → eqb r.number leaves_axis ≡ b → turned_within j ≡ t → (locked_or_exact (Refused r) (At j) ≡ Refused r) ⊎ Changed s pose previous
+          go : (b t : Bool) → is_limit r.cause ≡ b → turned_within j ≡ t → (locked_or_exact (Err r) (Ok j) ≡ Err r) ⊎ Changed s pose previous
           go true true h t = inr (record {
             target = target;
             frame = f;
@@ -165,17 +159,17 @@ module _ (s : Setup) (pose : ToolPose) (previous : Angles) where
             exact = e;
             turns = t;
           })
-          go true false h t = inl (refusal_stands (Refused r) (At j) t)
-          go false b h t = inl (lock_stands (Refused r) (At j) h)
+          go true false h t = inl (refusal_stands (Err r) (Ok j) t)
+          go false b h t = inl (lock_stands (Err r) (Ok j) h)
 
-      frame_changes : (f : Frame) → s.frame ≡ f → (by_frame s target pose.tip previous f ≡ frame_before s target pose.tip previous f) ⊎ Changed s pose previous
-      frame_changes Regular e = inl refl
-      frame_changes (Singular f) e = go (in_singular_cone f s.cone target) refl
+      frame_changes : (f : Option SingularFrame) → s.frame ≡ f → (by_frame s target pose.tip previous f ≡ frame_before s target pose.tip previous f) ⊎ Changed s pose previous
+      frame_changes None e = inl refl
+      frame_changes (Some f) e = go (in_singular_cone f s.cone target) refl
         where
-          locked : PoseAnswer
+          locked : Result Joints Refusal
           locked = cone_solution s f target pose.tip previous
 
-          exact : PoseAnswer
+          exact : Result Joints Refusal
           exact = exact_pose s target pose.tip previous
 
           go : (b : Bool) → in_singular_cone f s.cone target ≡ b → (cond b (locked_or_exact locked exact) exact ≡ cond b locked exact) ⊎ Changed s pose previous
@@ -187,8 +181,8 @@ module _ (s : Setup) (pose : ToolPose) (previous : Angles) where
     tip_changes = go (all_finite pose.tip) (all_within pose.tip longest) refl refl
       where
         go : (b c : Bool) → all_finite pose.tip ≡ b → all_within pose.tip longest ≡ c
-            → (cond (not b) (refused not_finite) (cond (not c) (refused too_large) (with_turns (by_frame s target pose.tip previous s.frame)))
-            ≡ cond (not b) (refused not_finite) (cond (not c) (refused too_large) (with_turns (frame_before s target pose.tip previous s.frame))))
+            → (cond (not b) (refused Cause.NotFinite) (cond (not c) (refused Cause.TooLarge) (with_turns (by_frame s target pose.tip previous s.frame)))
+            ≡ cond (not b) (refused Cause.NotFinite) (cond (not c) (refused Cause.TooLarge) (with_turns (frame_before s target pose.tip previous s.frame))))
             ⊎ Changed s pose previous
         go true true e f = on_left (ap with_turns) (frame_changes e f s.frame refl)
         go true false e f = inl refl
@@ -196,13 +190,13 @@ module _ (s : Setup) (pose : ToolPose) (previous : Angles) where
 
   pub pose_changes : (i : ℕ) → (pose_answer s pose previous i ≡ pose_before s pose previous i) ⊎ Changed s pose previous
   unfolding pose_before pose_answer solved_pose
-  pose_changes i = on_left (ap (λ (a : PoseAnswer). at_pose a i)) (go (unit_direction pose.axis) refl)
+  pose_changes i = on_left (ap (λ (a : Result Joints Refusal). at_pose a i)) (go (unit_direction pose.axis) refl)
     where
-      go : (d : Direction) → unit_direction pose.axis ≡ d
-          → (along d (refused pose_unreachable) (λ target. solved_tip s target pose.tip previous)
-          ≡ along d (refused pose_unreachable) (λ target. tip_before s target pose.tip previous)) ⊎ Changed s pose previous
-      go (Direction.Unit target) e = tip_changes target e
-      go Direction.Nowhere e = inl refl
+      go : (d : Option Vec3) → unit_direction pose.axis ≡ d
+          → (along d (refused Cause.PoseUnreachable) (λ target. solved_tip s target pose.tip previous)
+          ≡ along d (refused Cause.PoseUnreachable) (λ target. tip_before s target pose.tip previous)) ⊎ Changed s pose previous
+      go (Some target) e = tip_changes target e
+      go None e = inl refl
 
 -- ---- a path
 -- the angles after some joints: of the last set, or those before the first
@@ -246,7 +240,7 @@ first_changes s previous i pose l c = record {
   new = rw (changed_now s pose previous c i);
 }
 
-later_changes : (s : Setup) (previous : Angles) (i : ℕ) (pose : ToolPose) (l : List ToolPose) (j : Joints) → pose_before s pose previous i ≡ At j → pose_answer s pose previous i ≡ At j
+later_changes : (s : Setup) (previous : Angles) (i : ℕ) (pose : ToolPose) (l : List ToolPose) (j : Joints) → pose_before s pose previous i ≡ Ok j → pose_answer s pose previous i ≡ Ok j
     → ChangedAt s (angles_of j) (suc i) l → ChangedAt s previous i (pose ∷ l)
 unfolding poses_before solve_poses before angles_after
 later_changes s previous i pose l j was is c = record {
@@ -269,30 +263,30 @@ unfolding poses_before solve_poses
 poses_change s [] previous i = inl refl
 poses_change s (pose ∷ l) previous i = go (pose_changes s pose previous i) (pose_before s pose previous i) refl (λ j. poses_change s l (angles_of j) (suc i))
   where
-    go : (pose_answer s pose previous i ≡ pose_before s pose previous i) ⊎ Changed s pose previous → (a : PoseAnswer) → pose_before s pose previous i ≡ a
+    go : (pose_answer s pose previous i ≡ pose_before s pose previous i) ⊎ Changed s pose previous → (a : Result Joints Refusal) → pose_before s pose previous i ≡ a
         → ((j : Joints) → Compared s (angles_of j) (suc i) l) → Compared s previous i (pose ∷ l)
     go (inr c) a e rest = inr (first_changes s previous i pose l c)
-    go (inl same) (Refused r) e rest = inl (rw (same, e))
-    go (inl same) (At j) e rest = on (rest j)
+    go (inl same) (Err r) e rest = inl (rw (same, e))
+    go (inl same) (Ok j) e rest = on (rest j)
       where
         on : Compared s (angles_of j) (suc i) l → Compared s previous i (pose ∷ l)
         on (inl h) = inl (rw (same, e, h))
         on (inr c) = inr (later_changes s previous i pose l j e (same ∙ e) c)
 
 -- ---- in words of a pose alone: whether it lies in the cone, and what the exact rule answers there
-abbrev frame_has : Setup → Vec3 → Frame → Bool
-frame_has s target (Singular f) = in_singular_cone f s.cone target
-frame_has s target Regular = false
+abbrev frame_has : Setup → Vec3 → Option SingularFrame → Bool
+frame_has s target (Some f) = in_singular_cone f s.cone target
+frame_has s target None = false
 
 abbrev pub in_cone : Setup → ToolPose → Bool
 in_cone s pose = along (unit_direction pose.axis) false (λ target. frame_has s target s.frame)
 
-abbrev pub exact_at : Setup → ToolPose → Angles → PoseAnswer
-exact_at s pose previous = along (unit_direction pose.axis) (refused pose_unreachable) (λ target. exact_pose s target pose.tip previous)
+abbrev pub exact_at : Setup → ToolPose → Angles → Result Joints Refusal
+exact_at s pose previous = along (unit_direction pose.axis) (refused Cause.PoseUnreachable) (λ target. exact_pose s target pose.tip previous)
 
 module _ (s : Setup) (pose : ToolPose) (previous : Angles) (c : Changed s pose previous) where
   changed_inside : in_cone s pose ≡ true
-  changed_inside = ap (λ (d : Direction). along d false (λ target. frame_has s target s.frame)) c.axis ∙ ap (frame_has s c.target) c.singular ∙ c.cone
+  changed_inside = ap (λ (d : Option Vec3). along d false (λ target. frame_has s target s.frame)) c.axis ∙ ap (frame_has s c.target) c.singular ∙ c.cone
 
   changed_succeeds : succeeds (exact_at s pose previous) ≡ true
   changed_succeeds = rw (c.axis, c.exact) c.turns
@@ -302,13 +296,13 @@ on_right : {A B C : Type 0} → (B → C) → A ⊎ B → A ⊎ C
 on_right f (inl a) = inl a
 on_right f (inr b) = inr (f b)
 
-module _ (k : Kinematics) (poses : List Float) (start : Start) (cone : Float) (room : ℕ) where
+module _ (k : Kinematics) (poses : List Float) (start : Option Joints) (cone : Float) (room : ℕ) where
   abbrev First : Type 0
   First = ChangedAt (set_up k cone) (start_angles start) 0 (poses_in poses)
 
   -- a path is answered as before; or it was refused with 24 at a pose in the cone whose exact rule succeeds, and its
   -- answer changes from that pose on
-  pub path_changes : (solve_path k poses start cone room ≡ path_before k poses start cone room) ⊎ ((solve_check k start cone (length poses) room ≡ Checked.Passed) × First)
+  pub path_changes : (solve_path k poses start cone room ≡ path_before k poses start cone room) ⊎ ((solve_check k start cone (length poses) room ≡ Ok tt) × First)
   unfolding solve_path solve_checked path_before
   path_changes = go (solve_check k start cone (length poses) room) refl
     where
@@ -319,11 +313,11 @@ module _ (k : Kinematics) (poses : List Float) (start : Start) (cone : Float) (r
       new = solve_poses (set_up k cone) (start_angles start) 0 (poses_in poses)
 
       go : (c : Checked) → solve_check k start cone (length poses) room ≡ c
-          → (unless_kept c new ≡ unless_kept c old) ⊎ ((solve_check k start cone (length poses) room ≡ Checked.Passed) × First)
-      go Checked.Passed e = on_right (λ c. (e, c)) (poses_change (set_up k cone) (poses_in poses) (start_angles start) 0)
-      go (Checked.Refused r) e = inl refl
+          → (unless_kept c new ≡ unless_kept c old) ⊎ ((solve_check k start cone (length poses) room ≡ Ok tt) × First)
+      go (Ok _) e = on_right (λ c. (e, c)) (poses_change (set_up k cone) (poses_in poses) (start_angles start) 0)
+      go (Err r) e = inl refl
 
-  path_left : solve_check k start cone (length poses) room ≡ Checked.Passed → (c : First) → path_before k poses start cone room ≡ AtPose (left_at c.changed.left c.index)
+  path_left : solve_check k start cone (length poses) room ≡ Ok tt → (c : First) → path_before k poses start cone room ≡ AtPose (left_at c.changed.left c.index)
   unfolding path_before
   path_left e c = rw e c.old
 
@@ -332,7 +326,7 @@ module _ (k : Kinematics) (poses : List Float) (start : Start) (cone : Float) (r
       → solve_path k poses start cone room ≡ answer
   alike_unless answer h never = go path_changes
     where
-      go : (solve_path k poses start cone room ≡ path_before k poses start cone room) ⊎ ((solve_check k start cone (length poses) room ≡ Checked.Passed) × First)
+      go : (solve_path k poses start cone room ≡ path_before k poses start cone room) ⊎ ((solve_check k start cone (length poses) room ≡ Ok tt) × First)
           → solve_path k poses start cone room ≡ answer
       go (inl e) = e ∙ h
       go (inr (e, c)) = absurd (never c (sym (path_left e c) ∙ h))
@@ -347,8 +341,8 @@ module _ (k : Kinematics) (poses : List Float) (start : Start) (cone : Float) (r
 
   module _ (r : Refusal) (h : path_before k poses start cone room ≡ AtPose r) where
     -- one at a pose with another number than 24 is the same at the same pose
-    pub other_alike : eqb r.number leaves_axis ≡ false → solve_path k poses start cone room ≡ AtPose r
-    other_alike n = alike_unless (AtPose r) h (λ c e. true≢false (sym c.changed.leaves ∙ ap (λ (q : Refusal). eqb q.number leaves_axis) (at_pose_one e) ∙ n))
+    pub other_alike : is_limit r.cause ≡ false → solve_path k poses start cone room ≡ AtPose r
+    other_alike n = alike_unless (AtPose r) h (λ c e. true≢false (sym c.changed.leaves ∙ ap (λ (q : Refusal). is_limit q.cause) (at_pose_one e) ∙ n))
 
     at_index : (c : First) → AtPose (left_at c.changed.left c.index) ≡ AtPose r → c.index ≡ r.at
     at_index c e = ap (λ (q : Refusal). q.at) (at_pose_one e)

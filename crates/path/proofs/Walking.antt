@@ -6,24 +6,22 @@ use native.Mathlib.Omega.{arith}
 use mathlib.Core.Path.{◌≡◌, refl, sym, ap, ◌∙◌}
 use mathlib.Core.Bool.{true}
 use mathlib.Core.List.{List, [], ◌∷◌, ◌++◌, append-nil}
-use lib.ListN.{length, take, drop, length-set, length-append}
+use lib.ListN.{length, replicate, take, drop, length-set, length-append}
 use lib.Seq.{sets, sets-eq, take_at, length-take-le, drop-drop}
 use lib.Ieee.{Float}
+use Rattle.std.specs.Prelude.{Err, Ok, Result}
 use Rattle.float.specs.Helpers.{nought}
 use Rattle.lists.specs.Padding.{padded}
 use Rattle.lists.specs.Rows.{rows, flat}
-use Rattle.lists.proofs.Padding.{padded_nil}
 use Rattle.lists.proofs.Rows.{flat_append}
 use Rattle.refusal.specs.declared.Refusal.{Refusal}
+use Rattle.chain.specs.Checked.{Checked}
 use Rattle.chain.specs.declared.Joints.{Joints}
-use Rattle.chain.specs.declared.Checked.TheVariants as Checked
 use Rattle.inverse.specs.declared.Angles.{Angles}
 use Rattle.path.specs.Closest.{bounded}
 use Rattle.path.specs.Exact.{angles_of}
 use Rattle.path.specs.Posing.{pose_answer}
-use Rattle.path.specs.Solving.{PathAnswer, Along, AtPose, then_on, pose_from, pose_in, poses_in, joint_numbers, joints_over, solve_poses, checked_in, path_over, refusal_in}
-use Rattle.path.specs.declared.PoseAnswer.{PoseAnswer}
-use Rattle.path.specs.declared.PoseAnswer.TheVariants.{At, Refused}
+use Rattle.path.specs.Solving.{PathAnswer, Along, AtPose, then_on, pose_from, pose_in, poses_in, joint_numbers, joints_over, solve_poses, checked_in, path_over}
 use Rattle.path.specs.declared.Setup.{Setup}
 
 -- ---- what is solved, before what the rest comes to
@@ -88,7 +86,7 @@ next_pose l n i p =
     rw (e, drop-drop, f)
 
 module _ {s : Setup} {start : Angles} {l : List Float} {n : ℕ} {out₀ out : List Float} {previous : Angles} {i : ℕ} where
-  pub walking_step : {j : Joints} → i < n → Walking s start l n out₀ out previous i → pose_answer s (pose_in l (i * 6)) previous i ≡ At j
+  pub walking_step : {j : Joints} → i < n → Walking s start l n out₀ out previous i → pose_answer s (pose_in l (i * 6)) previous i ≡ Ok j
       → Walking s start l n out₀ (joints_over j out (i * 5)) (angles_of j) (i + 1)
   unfolding solve_poses
   walking_step {j} p g e =
@@ -105,22 +103,22 @@ module _ {s : Setup} {start : Angles} {l : List Float} {n : ℕ} {out₀ out : L
         whole = rw (before_more, add-one) (rw (next_pose l n i p, e, add-one) at g.whole);
       }
 
-  at_pose_lem : {r : Refusal} → i < n → Walking s start l n out₀ out previous i → pose_answer s (pose_in l (i * 6)) previous i ≡ Refused r → solve_poses s start 0 (poses_in l) ≡ AtPose r
+  refused_at : {r : Refusal} → i < n → Walking s start l n out₀ out previous i → pose_answer s (pose_in l (i * 6)) previous i ≡ Err r → solve_poses s start 0 (poses_in l) ≡ AtPose r
   unfolding solve_poses
-  at_pose_lem {r} p g e = (rw (next_pose l n i p, e) at g.whole) ∙ before_refused g.done r
+  refused_at {r} p g e = (rw (next_pose l n i p, e) at g.whole) ∙ before_refused g.done r
 
   -- refused at a pose, and the output cleared
-  pub walking_refused : {answer : PoseAnswer} {r : Refusal} {z : List Float} → i < n → Walking s start l n out₀ out previous i
-      → answer ≡ pose_answer s (pose_in l (i * 6)) previous i → answer ≡ Refused r → z ≡ padded (length out) nought (take 0 out)
-      → (refusal_in answer ≡ checked_in (solve_poses s start 0 (poses_in l))) × (z ≡ path_over (solve_poses s start 0 (poses_in l)) out₀)
+  pub walking_refused : {answer : Result Joints Refusal} {r : Refusal} {z : List Float} → i < n → Walking s start l n out₀ out previous i
+      → answer ≡ pose_answer s (pose_in l (i * 6)) previous i → answer ≡ Err r → z ≡ replicate (length out) nought
+      → (◌≡◌ {A = Checked} (Err r) (checked_in (solve_poses s start 0 (poses_in l)))) × (z ≡ path_over (solve_poses s start 0 (poses_in l)) out₀)
   unfolding path_over
   walking_refused p g e f clear =
-      let a = at_pose_lem p g (sym e ∙ f) in
-      (rw (a, f), rw (a, clear, padded_nil, g.long))
+      let a = refused_at p g (sym e ∙ f) in
+      (rw a, rw (a, clear, g.long))
 
   -- all solved, and what is behind them cleared
   pub walking_end : {z : List Float} → n ≤ i → Walking s start l n out₀ out previous i → z ≡ padded (length out) nought (take (n * 5) out)
-      → (Checked.Passed ≡ checked_in (solve_poses s start 0 (poses_in l))) × (z ≡ path_over (solve_poses s start 0 (poses_in l)) out₀)
+      → ((Ok tt) ≡ checked_in (solve_poses s start 0 (poses_in l))) × (z ≡ path_over (solve_poses s start 0 (poses_in l)) out₀)
   unfolding solve_poses rows path_over
   walking_end p g clear =
       let e : n - i ≡ 0 = omega arith in

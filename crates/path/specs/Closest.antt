@@ -1,6 +1,6 @@
 -- The closer of two solutions alone, where that is the answer: one is closer, it is reached, and it is within the
 -- limits. This is asked of bounded numbers only, so that the other's position cannot overflow.
-use Rattle.std.specs.Prelude.{Bool, true, cond, ◌&&◌, Float}
+use Rattle.std.specs.Prelude.{Bool, true, cond, ◌&&◌, Float, None, Option, Some}
 use Rattle.std.specs.Float.Ieee as Ieee
 use Rattle.std.specs.Float.{binary64}
 use Rattle.std.specs.Float.Ieee.{of_bits}
@@ -15,13 +15,9 @@ use Rattle.chain.specs.declared.Prepared.{Prepared}
 use Rattle.chain.specs.Check.{all_within, longest}
 use Rattle.inverse.specs.Wraps.{same_angles}
 use Rattle.inverse.specs.declared.Angles.{Angles}
-use Rattle.inverse.specs.declared.RawAngles.{RawAngles}
-use Rattle.inverse.specs.declared.RawAngles.TheVariants as Raw
 use Rattle.path.specs.Unwinding.{unwind_angles, rotary_distance, inside}
 use Rattle.path.specs.Exact.{reached_by}
 use Rattle.path.specs.declared.Bounds.{Bounds}
-use Rattle.path.specs.declared.Candidate.{Candidate}
-use Rattle.path.specs.declared.Candidate.TheVariants.{At, Nothing}
 use Rattle.path.specs.declared.Setup.{Setup}
 
 -- what the checks before the first pose leave: no number of the spindle, and none of a rotary that moves, is past
@@ -40,14 +36,14 @@ bounded p =
 abbrev pub turned_to : Joints → Angles → Joints
 turned_to j angles = record { xyz = j.xyz; a0 = angles.a0; a1 = angles.a1 }
 
-unfoldable pub kept_at : Bounds → Joints → Angles → Candidate
-kept_at b j angles = cond (inside b (turned_to j angles)) (At (turned_to j angles)) Nothing
+unfoldable pub kept_at : Bounds → Joints → Angles → Option Joints
+kept_at b j angles = cond (inside b (turned_to j angles)) (Some (turned_to j angles)) None
 
-abbrev pub kept_of : Bounds → Angles → Candidate → Candidate
-kept_of b angles (At j) = kept_at b j angles
-kept_of b angles Nothing = Nothing
+abbrev pub kept_of : Bounds → Angles → Option Joints → Option Joints
+kept_of b angles (Some j) = kept_at b j angles
+kept_of b angles None = None
 
-unfoldable pub kept : Setup → Vec3 → Vec3 → Angles → Angles → Candidate
+unfoldable pub kept : Setup → Vec3 → Vec3 → Angles → Angles → Option Joints
 kept s target tip angles unwound = kept_of s.bounds unwound (reached_by s.chain target tip angles)
 
 -- whether the root of x stands before that of y
@@ -68,14 +64,14 @@ far_apart near far = Ieee.le nought near && Ieee.le near near_square && Ieee.le 
 abbrev pub distance : Bool → Angles → Angles → Float
 distance two previous angles = rotary_distance two (unwind_angles two angles previous) previous
 
-unfoldable pub closer : Setup → Vec3 → Vec3 → Angles → Angles → Angles → Candidate
+unfoldable pub closer : Setup → Vec3 → Vec3 → Angles → Angles → Angles → Option Joints
 closer s target tip previous one two =
     cond (before (distance s.bounds.two previous two) (distance s.bounds.two previous one)) (kept s target tip two (unwind_angles s.bounds.two two previous))
     (cond (before (distance s.bounds.two previous one) (distance s.bounds.two previous two)) (kept s target tip one (unwind_angles s.bounds.two one previous))
-    Nothing)
+    None)
 
-abbrev pub closest_alone : Setup → Vec3 → Vec3 → Angles → RawAngles → RawAngles → Candidate
-closest_alone s target tip previous (Raw.At one) (Raw.At two) =
-    cond (same_angles one two) Nothing (closer s target tip previous one two)
-closest_alone s target tip previous (Raw.At one) Raw.Nothing = Nothing
-closest_alone s target tip previous Raw.Nothing two = Nothing
+abbrev pub closest_alone : Setup → Vec3 → Vec3 → Angles → Option Angles → Option Angles → Option Joints
+closest_alone s target tip previous (Some one) (Some two) =
+    cond (same_angles one two) None (closer s target tip previous one two)
+closest_alone s target tip previous (Some one) None = None
+closest_alone s target tip previous None two = None

@@ -1,9 +1,10 @@
 -- Outside the cone: the solutions of the raw angles, at most two; the closest to the angles before, as long as it is within the limits; else the other one, if that is within them and on the same branch.
 -- The position is that of the raw angles, the answer's angles are unwound.
-use Rattle.std.specs.Prelude.{Bool, true, false, not, cond}
+use Rattle.std.specs.Prelude.{Bool, true, false, not, cond, None, Ok, Option, Result, Some}
 use Rattle.float.specs.Helpers.{nought}
 use Rattle.float.specs.TotalOrder.{before}
-use Rattle.refusal.specs.Numbers.{not_finite, branch_flips, pose_unreachable}
+use Rattle.refusal.specs.declared.Refusal.{Refusal}
+use Rattle.refusal.specs.declared.Cause.{Cause}
 use Rattle.geometry.specs.declared.Vec3.{Vec3}
 use Rattle.geometry.specs.Direction.{all_finite}
 use Rattle.chain.specs.declared.Joints.{Joints}
@@ -13,40 +14,35 @@ use Rattle.inverse.specs.Wraps.{same_angles}
 use Rattle.inverse.specs.Solutions.{precedes}
 use Rattle.inverse.specs.Inverse.{pose_at, misses, joints_at}
 use Rattle.inverse.specs.declared.Angles.{Angles}
-use Rattle.inverse.specs.declared.RawAngles.{RawAngles}
-use Rattle.inverse.specs.declared.RawAngles.TheVariants as Raw
 use Rattle.path.specs.Unwinding.{unwind_angles, rotary_distance, different_branch, inside}
 use Rattle.path.specs.Locking.{refused, within_limits}
 use Rattle.path.specs.declared.Bounds.{Bounds}
-use Rattle.path.specs.declared.Candidate.{Candidate}
-use Rattle.path.specs.declared.PoseAnswer.{PoseAnswer}
-use Rattle.path.specs.declared.PoseAnswer.TheVariants.{At}
 use Rattle.path.specs.declared.Ranked.{Ranked}
 use Rattle.path.specs.declared.Setup.{Setup}
 
 -- ---- the candidates
-unfoldable pub reached_by : Prepared → Vec3 → Vec3 → Angles → Candidate
+unfoldable pub reached_by : Prepared → Vec3 → Vec3 → Angles → Option Joints
 reached_by p target tip angles =
-    cond (misses (pose_at p angles nought).axis target) Candidate.Nothing (Candidate.At (joints_at p angles tip (pose_at p angles nought).tip))
+    cond (misses (pose_at p angles nought).axis target) None (Some (joints_at p angles tip (pose_at p angles nought).tip))
 
-abbrev pub candidate : Prepared → Vec3 → Vec3 → RawAngles → Candidate
-candidate p target tip (Raw.At angles) = reached_by p target tip angles
-candidate p target tip Raw.Nothing = Candidate.Nothing
+abbrev pub candidate : Prepared → Vec3 → Vec3 → Option Angles → Option Joints
+candidate p target tip (Some angles) = reached_by p target tip angles
+candidate p target tip None = None
 
 abbrev pub angles_of : Joints → Angles
 angles_of j = record { a0 = j.a0; a1 = j.a1 }
 
-abbrev pub repeats : Candidate → RawAngles → Bool
-repeats (Candidate.At j) (Raw.At angles) = same_angles (angles_of j) angles
-repeats (Candidate.At j) Raw.Nothing = false
-repeats Candidate.Nothing raw = false
+abbrev pub repeats : Option Joints → Option Angles → Bool
+repeats (Some j) (Some angles) = same_angles (angles_of j) angles
+repeats (Some j) None = false
+repeats None raw = false
 
-unfoldable pub second_candidate : Prepared → Vec3 → Vec3 → Candidate → RawAngles → Candidate
-second_candidate p target tip first raw = cond (repeats first raw) Candidate.Nothing (candidate p target tip raw)
+unfoldable pub second_candidate : Prepared → Vec3 → Vec3 → Option Joints → Option Angles → Option Joints
+second_candidate p target tip first raw = cond (repeats first raw) None (candidate p target tip raw)
 
-abbrev pub position_finite : Candidate → Bool
-position_finite (Candidate.At j) = all_finite j.xyz
-position_finite Candidate.Nothing = true
+abbrev pub position_finite : Option Joints → Bool
+position_finite (Some j) = all_finite j.xyz
+position_finite None = true
 
 -- ---- the closest
 unfoldable pub unwound : Bool → Angles → Joints → Joints
@@ -69,40 +65,40 @@ ranks_before r q =
     (precedes r.joints q.joints))
 
 -- ---- the limits: 23 where only another branch is inside, else 24 with the closest's first rotary outside
-unfoldable pub closest_or_other : Bounds → Joints → Joints → PoseAnswer
+unfoldable pub closest_or_other : Bounds → Joints → Joints → Result Joints Refusal
 closest_or_other b closest other =
-    cond (inside b closest) (At closest)
-    (cond (inside b other) (cond (different_branch b.two other closest) (refused branch_flips) (At other))
+    cond (inside b closest) (Ok closest)
+    (cond (inside b other) (cond (different_branch b.two other closest) (refused Cause.BranchFlips) (Ok other))
     (within_limits b closest))
 
 -- of two that tie the first
-unfoldable pub of_ranked : Bounds → Ranked → Ranked → PoseAnswer
+unfoldable pub of_ranked : Bounds → Ranked → Ranked → Result Joints Refusal
 of_ranked b first second =
     cond (ranks_before second first) (closest_or_other b second.joints first.joints) (closest_or_other b first.joints second.joints)
 
-unfoldable pub alone : Bounds → Angles → Joints → PoseAnswer
+unfoldable pub alone : Bounds → Angles → Joints → Result Joints Refusal
 alone b previous j = within_limits b (unwound b.two previous j)
 
-unfoldable pub both : Bounds → Angles → Joints → Joints → PoseAnswer
+unfoldable pub both : Bounds → Angles → Joints → Joints → Result Joints Refusal
 both b previous j k = of_ranked b (ranked b.two previous j) (ranked b.two previous k)
 
-abbrev pub of_candidates : Bounds → Angles → Candidate → Candidate → PoseAnswer
-of_candidates b previous (Candidate.At j) (Candidate.At k) = both b previous j k
-of_candidates b previous (Candidate.At j) Candidate.Nothing = alone b previous j
-of_candidates b previous Candidate.Nothing (Candidate.At k) = alone b previous k
-of_candidates b previous Candidate.Nothing Candidate.Nothing = refused pose_unreachable
+abbrev pub of_candidates : Bounds → Angles → Option Joints → Option Joints → Result Joints Refusal
+of_candidates b previous (Some j) (Some k) = both b previous j k
+of_candidates b previous (Some j) None = alone b previous j
+of_candidates b previous None (Some k) = alone b previous k
+of_candidates b previous None None = refused Cause.PoseUnreachable
 
-unfoldable pub of_positions : Bounds → Angles → Candidate → Candidate → PoseAnswer
+unfoldable pub of_positions : Bounds → Angles → Option Joints → Option Joints → Result Joints Refusal
 of_positions b previous first second =
-    cond (not (position_finite first)) (refused not_finite)
-    (cond (not (position_finite second)) (refused not_finite)
+    cond (not (position_finite first)) (refused Cause.NotFinite)
+    (cond (not (position_finite second)) (refused Cause.NotFinite)
     (of_candidates b previous first second))
 
 -- of both raw pairs
-unfoldable pub of_raw : Setup → Vec3 → Vec3 → Angles → RawAngles → RawAngles → PoseAnswer
+unfoldable pub of_raw : Setup → Vec3 → Vec3 → Angles → Option Angles → Option Angles → Result Joints Refusal
 of_raw s target tip previous one two =
     of_positions s.bounds previous (candidate s.chain target tip one) (second_candidate s.chain target tip (candidate s.chain target tip one) two)
 
-unfoldable pub exact_pose : Setup → Vec3 → Vec3 → Angles → PoseAnswer
+unfoldable pub exact_pose : Setup → Vec3 → Vec3 → Angles → Result Joints Refusal
 exact_pose s target tip previous =
     of_raw s target tip previous (orientation_angles s.chain target previous).first (orientation_angles s.chain target previous).second

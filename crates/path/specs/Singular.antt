@@ -1,6 +1,6 @@
 -- The singular direction of a chain of two: one rotary on the spindle within 1e-6 of its cosine, the other within 1e-3
 -- of square to it. And the cone about it and about the opposite direction.
-use Rattle.std.specs.Prelude.{Bool, true, false, cond, ◌&&◌, Float}
+use Rattle.std.specs.Prelude.{Bool, true, false, cond, ◌&&◌, Float, None, Option, Some}
 use Rattle.std.specs.Float.Ieee as Ieee
 use Rattle.std.specs.Float.{binary64}
 use Rattle.std.specs.Float.Ieee.{of_bits}
@@ -13,8 +13,6 @@ use Rattle.chain.specs.declared.Mount.{Mount}
 use Rattle.chain.specs.declared.Mount.TheVariants.{Table, Head, Absent}
 use Rattle.chain.specs.declared.Prepared.{Prepared}
 use Rattle.inverse.specs.AxisMap.{minus_one}
-use Rattle.path.specs.declared.Frame.{Frame}
-use Rattle.path.specs.declared.Frame.TheVariants.{Singular, Regular}
 use Rattle.path.specs.declared.SingularFrame.{SingularFrame}
 
 -- 1e-6 and 1e-3
@@ -29,25 +27,25 @@ unfoldable pub in_sense : Vec3 → Float → Vec3
 in_sense axis along = cond (Ieee.le nought along) axis (scale axis minus_one)
 
 -- ---- the frame
-unfoldable pub frame_on : Bool → Vec3 → Vec3 → Float → Float → Frame
+unfoldable pub frame_on : Bool → Vec3 → Vec3 → Float → Float → Option SingularFrame
 frame_on onSecond axis spindle best other =
-    cond (Ieee.lt best (minus one millionth)) Regular
-    (cond (Ieee.lt thousandth other) Regular
-    (Singular (record { on_second = onSecond; direction = in_sense axis (dot axis spindle) })))
+    cond (Ieee.lt best (minus one millionth)) None
+    (cond (Ieee.lt thousandth other) None
+    (Some (record { on_second = onSecond; direction = in_sense axis (dot axis spindle) })))
 
 -- the rotary that is nearer to the spindle, the first of two that are as near
-unfoldable pub frame_of_two : Vec3 → Vec3 → Vec3 → Frame
+unfoldable pub frame_of_two : Vec3 → Vec3 → Vec3 → Option SingularFrame
 frame_of_two first second spindle =
     cond (Ieee.lt (size_of (dot first spindle)) (size_of (dot second spindle)))
     (frame_on true second spindle (size_of (dot second spindle)) (size_of (dot first spindle)))
     (frame_on false first spindle (size_of (dot first spindle)) (size_of (dot second spindle)))
 
-abbrev pub of_two : Mount → Frame → Frame
-of_two Absent frame = Regular
+abbrev pub of_two : Mount → Option SingularFrame → Option SingularFrame
+of_two Absent frame = None
 of_two Table frame = frame
 of_two Head frame = frame
 
-unfoldable pub singular_frame : Prepared → Frame
+unfoldable pub singular_frame : Prepared → Option SingularFrame
 singular_frame p = of_two p.second.mount (frame_of_two p.first.axis p.second.axis p.spindle)
 
 -- ---- the cone

@@ -1,5 +1,5 @@
 -- A path over lent numbers: the checks before the first pose, as one list, then pose after pose, each from the angles before it.
-use Rattle.std.specs.Prelude.{Bool, true, not, ◌&&◌, List, [], ◌∷◌, ℕ, suc, ◌+◌, ◌/◌, ◌%◌, eqb, leb, length, get_or, set, replicate, drop, Float}
+use Rattle.std.specs.Prelude.{Bool, true, not, ◌&&◌, List, [], ◌∷◌, ℕ, suc, ◌+◌, ◌/◌, ◌%◌, eqb, leb, length, get_or, set, replicate, drop, Float, Err, None, Ok, Option, Result, Some}
 use Rattle.std.specs.Float.Ieee as Ieee
 use Rattle.std.specs.Float.{nan, binary64}
 use Rattle.std.specs.Float.Ieee.{of_bits}
@@ -8,9 +8,9 @@ use Rattle.lists.specs.Padding.{padded}
 use Rattle.lists.specs.Rows.{rows, flat}
 use Rattle.float.specs.Helpers.{nought}
 use Rattle.refusal.specs.declared.Refusal.{Refusal}
-use Rattle.refusal.specs.Numbers as Numbers
+use Rattle.refusal.specs.declared.Cause.{Cause}
 use Rattle.geometry.specs.Vector.{vector, cross, norm}
-use Rattle.chain.specs.declared.Checked.{Checked}
+use Rattle.chain.specs.Checked.{Checked}
 use Rattle.chain.specs.declared.Joints.{Joints}
 use Rattle.chain.specs.declared.Kinematics.{Kinematics}
 use Rattle.chain.specs.declared.ToolPose.{ToolPose}
@@ -20,10 +20,7 @@ use Rattle.inverse.specs.Subproblem.{shortest}
 use Rattle.inverse.specs.declared.Angles.{Angles}
 use Rattle.path.specs.Exact.{angles_of}
 use Rattle.path.specs.Posing.{set_up, pose_answer}
-use Rattle.path.specs.declared.PoseAnswer.{PoseAnswer}
 use Rattle.path.specs.declared.Setup.{Setup}
-use Rattle.path.specs.declared.Start.{Start}
-use Rattle.path.specs.declared.Start.TheVariants.{AtZero, From}
 
 -- ---- records of lent numbers
 -- a pose is six: the tip, then the axis
@@ -55,26 +52,26 @@ then_on j (Along l) = Along (j ∷ l)
 then_on j (AtPose r) = AtPose r
 then_on j (Kept r) = Kept r
 
-abbrev pub with_pose : PoseAnswer → (Joints → PathAnswer) → PathAnswer
-with_pose (PoseAnswer.At j) rest = then_on j (rest j)
-with_pose (PoseAnswer.Refused r) rest = AtPose r
+abbrev pub with_pose : Result Joints Refusal → (Joints → PathAnswer) → PathAnswer
+with_pose (Ok j) rest = then_on j (rest j)
+with_pose (Err r) rest = AtPose r
 
 unfoldable pub solve_poses : Setup → Angles → ℕ → List ToolPose → PathAnswer
 solve_poses s previous i [] = Along []
 solve_poses s previous i (pose ∷ l) = with_pose (pose_answer s pose previous i) (λ j. solve_poses s (angles_of j) (suc i) l)
 
 -- ---- the start: angles zero, or those of given joints
-abbrev pub start_finite : Start → Bool
-start_finite AtZero = true
-start_finite (From j) = joints_finite j
+abbrev pub start_finite : Option Joints → Bool
+start_finite None = true
+start_finite (Some j) = joints_finite j
 
-abbrev pub start_within : Start → Bool
-start_within AtZero = true
-start_within (From j) = joints_within j
+abbrev pub start_within : Option Joints → Bool
+start_within None = true
+start_within (Some j) = joints_within j
 
-abbrev pub start_angles : Start → Angles
-start_angles AtZero = record { a0 = nought; a1 = nought }
-start_angles (From j) = angles_of j
+abbrev pub start_angles : Option Joints → Angles
+start_angles None = record { a0 = nought; a1 = nought }
+start_angles (Some j) = angles_of j
 
 -- ---- the checks before the first pose
 unfoldable pub whole_records : ℕ → ℕ → Bool
@@ -93,46 +90,42 @@ parallel k = eqb k.count 2 && Ieee.lt (norm (cross (unit_axis k.first.axis) (uni
 
 -- the chain of a call that walks a path
 unfoldable pub path_chain : Kinematics → Checked
-path_chain k = first_refusal (chain_check k ∷ demand (not (parallel k)) Numbers.parallel_rotaries 0 ∷ [])
+path_chain k = first_refusal (chain_check k ∷ demand (not (parallel k)) Cause.ParallelRotaries 0 ∷ [])
 
-unfoldable pub path_sizes : Kinematics → Start → ℕ → Bool
+unfoldable pub path_sizes : Kinematics → Option Joints → ℕ → Bool
 path_sizes k start count = chain_within k && start_within start && leb count 100000
 
-unfoldable pub solve_check : Kinematics → Start → Float → ℕ → ℕ → Checked
+unfoldable pub solve_check : Kinematics → Option Joints → Float → ℕ → ℕ → Checked
 solve_check k start cone numbers room =
     first_refusal
-    (demand (whole_records numbers room) Numbers.lengths_differ 0
-    ∷ demand (cone_good cone) Numbers.cone 0
+    (demand (whole_records numbers room) Cause.LengthsDiffer 0
+    ∷ demand (cone_good cone) Cause.Cone 0
     ∷ path_chain k
-    ∷ demand (start_finite start) Numbers.not_finite 0
-    ∷ demand (path_sizes k start (numbers / 6)) Numbers.too_large 0
-    ∷ demand (leb (numbers / 6) (room / 5)) Numbers.no_space 0
+    ∷ demand (start_finite start) Cause.NotFinite 0
+    ∷ demand (path_sizes k start (numbers / 6)) Cause.TooLarge 0
+    ∷ demand (leb (numbers / 6) (room / 5)) Cause.NoSpace 0
     ∷ [])
 
 -- ---- the entry
 abbrev pub unless_kept : Checked → PathAnswer → PathAnswer
-unless_kept Checked.Passed answer = answer
-unless_kept (Checked.Refused r) answer = Kept r
+unless_kept (Ok _) answer = answer
+unless_kept (Err r) answer = Kept r
 
-unfoldable pub solve_checked : Kinematics → List Float → Start → Float → PathAnswer
+unfoldable pub solve_checked : Kinematics → List Float → Option Joints → Float → PathAnswer
 solve_checked k poses start cone = solve_poses (set_up k cone) (start_angles start) 0 (poses_in poses)
 
 -- `room` is how many numbers the lent output has
-unfoldable pub solve_path : Kinematics → List Float → Start → Float → ℕ → PathAnswer
+unfoldable pub solve_path : Kinematics → List Float → Option Joints → Float → ℕ → PathAnswer
 solve_path k poses start cone room =
     unless_kept (solve_check k start cone (length poses) room) (solve_checked k poses start cone)
 
 abbrev pub checked_in : PathAnswer → Checked
-checked_in (Along l) = Checked.Passed
-checked_in (AtPose r) = Checked.Refused r
-checked_in (Kept r) = Checked.Refused r
+checked_in (Along l) = Ok tt
+checked_in (AtPose r) = Err r
+checked_in (Kept r) = Err r
 
 -- the lent output afterwards
 unfoldable pub path_over : PathAnswer → List Float → List Float
 path_over (Along l) out = padded (length out) nought (flat joint_numbers l)
 path_over (AtPose r) out = replicate (length out) nought
 path_over (Kept r) out = out
-
-abbrev pub refusal_in : PoseAnswer → Checked
-refusal_in (PoseAnswer.At j) = Checked.Passed
-refusal_in (PoseAnswer.Refused r) = Checked.Refused r

@@ -1,5 +1,5 @@
 -- Angles beside the angles before them.
-use Rattle.std.specs.Prelude.{Bool, true, not, cond, ◌&&◌, ◌||◌, ℕ, Float}
+use Rattle.std.specs.Prelude.{Bool, true, not, cond, ◌&&◌, ◌||◌, ℕ, Float, None, Option, Some}
 use Rattle.std.specs.Float.Ieee as Ieee
 use Rattle.std.specs.Float.{binary64}
 use Rattle.std.specs.Float.Ieee.{of_bits}
@@ -7,9 +7,8 @@ use Rattle.std.specs.Float.Ieee.Scale.{finite}
 use Rattle.float.specs.Helpers.{nought, size_of, round_half_away}
 use Rattle.root.specs.Root.{root}
 use Rattle.geometry.specs.Vector.{plus, minus, times, over}
+use Rattle.chain.specs.declared.RotaryLimits.{RotaryLimits}
 use Rattle.chain.specs.declared.Joints.{Joints}
-use Rattle.chain.specs.declared.Travel.{Travel}
-use Rattle.chain.specs.declared.Travel.TheVariants.{Unlimited, Within}
 use Rattle.chain.specs.Check.{contains}
 use Rattle.inverse.specs.Wraps.{one_turn}
 use Rattle.inverse.specs.declared.Angles.{Angles}
@@ -53,9 +52,9 @@ unfoldable pub different_branch : Bool → Joints → Joints → Bool
 different_branch two left right = split left.a0 right.a0 || (two && split left.a1 right.a1)
 
 -- ---- the limits; without, an angle is to be finite
-abbrev pub permits : Travel → Float → Bool
-permits (Within limits) angle = contains limits angle
-permits Unlimited angle = finite angle
+abbrev pub permits : Option RotaryLimits → Float → Bool
+permits (Some limits) angle = contains limits angle
+permits None angle = finite angle
 
 unfoldable pub first_inside : Bounds → Joints → Bool
 first_inside b j = permits b.outer j.a0

@@ -1,16 +1,17 @@
-// Of two exact solutions the closer one alone, where it is reached and within the limits: the other one then changes nothing, so that its turns and its position are not computed. Nothing says only that both are needed.
+// Of two exact solutions the closer one alone, where it is reached and within the limits: the other one then changes
+// nothing, so that its turns and its position are not computed. Nothing says only that both are needed.
 ghost use Rattle.std.specs.Prelude.{◌≡◌};
 ghost use Rattle.path.specs.Closest as S;
 
 use crate::exact::reached_by;
 use crate::unwinding::{inside, rotary_square, unwind_angles};
-use crate::{Bounds, Candidate, Setup};
+use crate::{Bounds, Setup};
 use chain::Joints;
 use geometry::Vec3;
-use inverse::{Angles, RawAngles};
+use inverse::Angles;
 
 // The joints at these angles, within the limits.
-fn kept_at(b: Bounds, j: Joints, angles: Angles) -> Candidate
+fn kept_at(b: Bounds, j: Joints, angles: Angles) -> Option<Joints>
     ensures { result ≡ S.kept_at b j angles }
 {
     let xyz = j.xyz;
@@ -20,32 +21,26 @@ fn kept_at(b: Bounds, j: Joints, angles: Angles) -> Candidate
         a1: angles.a1,
     };
     if inside(b, turned) {
-        return Candidate::At(turned);
+        return Some(turned);
     }
-    Candidate::Nothing
+    None
 }
 
 // A pair of angles, with the same unwound.
-fn kept(s: Setup, target: Vec3, tip: Vec3, angles: Angles, unwound: Angles) -> Candidate
+#[tactic(auto, unfolding(crate::specs::Closest::kept))]
+fn kept(s: Setup, target: Vec3, tip: Vec3, angles: Angles, unwound: Angles) -> Option<Joints>
     ensures { result ≡ S.kept s target tip angles unwound }
 {
-    let reached = reached_by(s.chain, target, tip, angles);
-    let Candidate::At(j) = reached else {
-        return Candidate::Nothing;
-    };
+    let j = reached_by(s.chain, target, tip, angles)?;
     kept_at(s.bounds, j, unwound)
 }
 
 // From 0 to 8,100, and from 10,000 on: the root of the one is at most 90, that of the other at least 100.
+#[tactic(auto, unfolding(crate::specs::Closest::far_apart))]
 fn far_apart(near: f64, far: f64) -> bool
     ensures { result ≡ S.far_apart near far }
 {
-    if 0.0 <= near {
-        if near <= 8100.0 {
-            return 10000.0 <= far;
-        }
-    }
-    false
+    0.0 <= near && near <= 8100.0 && 10000.0 <= far
 }
 
 // Which of two lengths is the shorter, by their squares: with roots only where they are not far apart.
@@ -69,7 +64,7 @@ fn closer(
     previous: Angles,
     one: Angles,
     two: Angles,
-) -> Candidate
+) -> Option<Joints>
     ensures { result ≡ S.closer s target tip previous one two }
 {
     let bounds = s.bounds;
@@ -83,7 +78,7 @@ fn closer(
     if root_before(near, far) {
         return kept(s, target, tip, one, first);
     }
-    Candidate::Nothing
+    None
 }
 
 // Of two raw pairs that are not the same.
@@ -92,19 +87,15 @@ pub fn closest_alone(
     target: Vec3,
     tip: Vec3,
     previous: Angles,
-    one: RawAngles,
-    two: RawAngles,
-) -> Candidate
+    one: Option<Angles>,
+    two: Option<Angles>,
+) -> Option<Joints>
     ensures { result ≡ S.closest_alone s target tip previous one two }
 {
-    let RawAngles::At(first) = one else {
-        return Candidate::Nothing;
-    };
-    let RawAngles::At(second) = two else {
-        return Candidate::Nothing;
-    };
+    let first = one?;
+    let second = two?;
     if inverse::same_angles(first, second) {
-        return Candidate::Nothing;
+        return None;
     }
     closer(s, target, tip, previous, first, second)
 }

@@ -1,4 +1,5 @@
-// Outside the cone: of the exact solutions, at most two, the closest to the joints before that stays on its branch and within the limits.
+// Outside the cone: of the exact solutions, at most two, the closest to the joints before that stays on its branch and
+// within the limits.
 ghost use Rattle.std.specs.Prelude.{◌≡◌, true};
 ghost use Rattle.chain.specs.Check.{all_within, longest};
 ghost use Rattle.path.specs.Exact as S;
@@ -7,30 +8,28 @@ ghost use Rattle.path.specs.Closest.{bounded};
 use crate::closest::closest_alone;
 use crate::locking::{refused, within_limits};
 use crate::unwinding::{different_branch, inside, rotary_distance, unwind_angles};
-use crate::{Bounds, Candidate, PoseAnswer, Ranked, Setup};
+use crate::{Bounds, Ranked, Setup};
 use chain::{Joints, Prepared};
 use geometry::Vec3;
-use inverse::{Angles, RawAngles};
+use inverse::Angles;
+use refusal::{Cause, Refusal};
 
 // The joints of a pair of angles, where they put the spindle on the target axis.
-pub fn reached_by(p: Prepared, target: Vec3, tip: Vec3, angles: Angles) -> Candidate
+pub fn reached_by(p: Prepared, target: Vec3, tip: Vec3, angles: Angles) -> Option<Joints>
     ensures { result ≡ S.reached_by p target tip angles }
 {
     let turns = chain::turns_of(p, angles.a0, angles.a1);
     let pose0 = inverse::pose_from(p, turns, 0.0);
     if inverse::misses(pose0.axis, target) {
-        return Candidate::Nothing;
+        return None;
     }
-    Candidate::At(inverse::joints_from(p, turns, angles, tip, pose0.tip))
+    Some(inverse::joints_from(p, turns, angles, tip, pose0.tip))
 }
 
-fn candidate(p: Prepared, target: Vec3, tip: Vec3, raw: RawAngles) -> Candidate
+fn candidate(p: Prepared, target: Vec3, tip: Vec3, raw: Option<Angles>) -> Option<Joints>
     ensures { result ≡ S.candidate p target tip raw }
 {
-    match raw {
-        RawAngles::At(angles) => reached_by(p, target, tip, angles),
-        RawAngles::Nothing => Candidate::Nothing,
-    }
+    reached_by(p, target, tip, raw?)
 }
 
 fn angles_of(j: Joints) -> Angles
@@ -40,13 +39,13 @@ fn angles_of(j: Joints) -> Angles
 }
 
 // Whether a raw pair is the same as that of the solution before it.
-fn repeats(first: Candidate, raw: RawAngles) -> bool
+fn repeats(first: Option<Joints>, raw: Option<Angles>) -> bool
     ensures { result ≡ S.repeats first raw }
 {
-    let Candidate::At(j) = first else {
+    let Some(j) = first else {
         return false;
     };
-    let RawAngles::At(angles) = raw else {
+    let Some(angles) = raw else {
         return false;
     };
     inverse::same_angles(angles_of(j), angles)
@@ -56,23 +55,23 @@ fn second_candidate(
     p: Prepared,
     target: Vec3,
     tip: Vec3,
-    first: Candidate,
-    raw: RawAngles,
-) -> Candidate
+    first: Option<Joints>,
+    raw: Option<Angles>,
+) -> Option<Joints>
     ensures { result ≡ S.second_candidate p target tip first raw }
 {
     if repeats(first, raw) {
-        return Candidate::Nothing;
+        return None;
     }
     candidate(p, target, tip, raw)
 }
 
-fn position_finite(c: Candidate) -> bool
+fn position_finite(c: Option<Joints>) -> bool
     ensures { result ≡ S.position_finite c }
 {
     match c {
-        Candidate::At(j) => geometry::all_finite(j.xyz),
-        Candidate::Nothing => true,
+        Some(j) => geometry::all_finite(j.xyz),
+        None => true,
     }
 }
 
@@ -111,22 +110,22 @@ fn ranks_before(r: Ranked, q: Ranked) -> bool
 }
 
 // The closest where it is inside; else the other, where it is inside and on the same branch.
-fn closest_or_other(b: Bounds, closest: Joints, other: Joints) -> PoseAnswer
+fn closest_or_other(b: Bounds, closest: Joints, other: Joints) -> Result<Joints, Refusal>
     ensures { result ≡ S.closest_or_other b closest other }
 {
     if inside(b, closest) {
-        return PoseAnswer::At(closest);
+        return Ok(closest);
     }
     if inside(b, other) {
         if different_branch(b.two, other, closest) {
-            return refused(refusal::BRANCH_FLIPS);
+            return refused(Cause::BranchFlips);
         }
-        return PoseAnswer::At(other);
+        return Ok(other);
     }
     within_limits(b, closest)
 }
 
-fn of_ranked(b: Bounds, first: Ranked, second: Ranked) -> PoseAnswer
+fn of_ranked(b: Bounds, first: Ranked, second: Ranked) -> Result<Joints, Refusal>
     ensures { result ≡ S.of_ranked b first second }
 {
     if ranks_before(second, first) {
@@ -135,13 +134,13 @@ fn of_ranked(b: Bounds, first: Ranked, second: Ranked) -> PoseAnswer
     closest_or_other(b, first.joints, second.joints)
 }
 
-fn alone(b: Bounds, previous: Angles, j: Joints) -> PoseAnswer
+fn alone(b: Bounds, previous: Angles, j: Joints) -> Result<Joints, Refusal>
     ensures { result ≡ S.alone b previous j }
 {
     within_limits(b, unwound(b.two, previous, j))
 }
 
-fn both(b: Bounds, previous: Angles, j: Joints, k: Joints) -> PoseAnswer
+fn both(b: Bounds, previous: Angles, j: Joints, k: Joints) -> Result<Joints, Refusal>
     ensures { result ≡ S.both b previous j k }
 {
     let first = ranked(b.two, previous, j);
@@ -149,30 +148,40 @@ fn both(b: Bounds, previous: Angles, j: Joints, k: Joints) -> PoseAnswer
     of_ranked(b, first, second)
 }
 
-fn of_candidates(b: Bounds, previous: Angles, first: Candidate, second: Candidate) -> PoseAnswer
+fn of_candidates(
+    b: Bounds,
+    previous: Angles,
+    first: Option<Joints>,
+    second: Option<Joints>,
+) -> Result<Joints, Refusal>
     ensures { result ≡ S.of_candidates b previous first second }
 {
     match first {
-        Candidate::At(j) => match second {
-            Candidate::At(k) => both(b, previous, j, k),
-            Candidate::Nothing => alone(b, previous, j),
+        Some(j) => match second {
+            Some(k) => both(b, previous, j, k),
+            None => alone(b, previous, j),
         },
-        Candidate::Nothing => match second {
-            Candidate::At(k) => alone(b, previous, k),
-            Candidate::Nothing => refused(refusal::POSE_UNREACHABLE),
+        None => match second {
+            Some(k) => alone(b, previous, k),
+            None => refused(Cause::PoseUnreachable),
         },
     }
 }
 
 // Whether the positions are finite, and one of the candidates.
-fn of_positions(b: Bounds, previous: Angles, first: Candidate, second: Candidate) -> PoseAnswer
+fn of_positions(
+    b: Bounds,
+    previous: Angles,
+    first: Option<Joints>,
+    second: Option<Joints>,
+) -> Result<Joints, Refusal>
     ensures { result ≡ S.of_positions b previous first second }
 {
     if !position_finite(first) {
-        return refused(refusal::NOT_FINITE);
+        return refused(Cause::NotFinite);
     }
     if !position_finite(second) {
-        return refused(refusal::NOT_FINITE);
+        return refused(Cause::NotFinite);
     }
     of_candidates(b, previous, first, second)
 }
@@ -183,9 +192,9 @@ fn of_raw(
     target: Vec3,
     tip: Vec3,
     previous: Angles,
-    one: RawAngles,
-    two: RawAngles,
-) -> PoseAnswer
+    one: Option<Angles>,
+    two: Option<Angles>,
+) -> Result<Joints, Refusal>
     ensures { result ≡ S.of_raw s target tip previous one two }
 {
     let p = s.chain;
@@ -194,9 +203,10 @@ fn of_raw(
     of_positions(s.bounds, previous, first, second)
 }
 
-// `target` is a unit vector. Of bounded numbers both solutions have a finite position, so that the closer one alone can
-// be the answer.
-pub fn exact_pose(s: Setup, target: Vec3, tip: Vec3, previous: Angles) -> PoseAnswer
+// `target` is a unit vector. It, the tip and the angles before are three parameters and no struct: each function reads
+// them apart, and the lock's second try would read `locked_joints(s, f.on_second, Aim { target: pole, ..aim })`.
+// Of bounded numbers both solutions have a finite position, so that the closer one alone can be the answer.
+pub fn exact_pose(s: Setup, target: Vec3, tip: Vec3, previous: Angles) -> Result<Joints, Refusal>
     requires { (bounded s.chain ≡ true) × (all_within tip longest ≡ true) }
     ensures { result ≡ S.exact_pose s target tip previous }
 {
@@ -205,7 +215,7 @@ pub fn exact_pose(s: Setup, target: Vec3, tip: Vec3, previous: Angles) -> PoseAn
     let two = raw.second;
     let closest = closest_alone(s, target, tip, previous, one, two);
     match closest {
-        Candidate::At(j) => PoseAnswer::At(j),
-        Candidate::Nothing => of_raw(s, target, tip, previous, one, two),
+        Some(j) => Ok(j),
+        None => of_raw(s, target, tip, previous, one, two),
     }
 }

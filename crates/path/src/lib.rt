@@ -1,6 +1,7 @@
-// Joints along a path, each pose continuous with the one before it (solve_path of the Rust): exact where the rotaries can follow, locked inside the cone about the singular direction.
-// Where the lock would leave a rotary's limits the exact solution is taken there too, if there is one.
-// What is solved of one pose is by value and total; what is lent is touched in one place.
+// Joints along a path, each pose continuous with the one before it (solve_path of the Rust): exact where the rotaries
+// can follow, locked inside the cone about the singular direction. Where the lock would leave a rotary's limits the
+// exact solution is taken there too, if there is one. What is solved of one pose is by value and total; what is lent is
+// touched in one place.
 #![tactic(auto)]
 
 mod closest;
@@ -11,74 +12,41 @@ mod singular;
 mod solving;
 mod unwinding;
 
-use chain::{Joints, Prepared, Travel};
+use chain::{Joints, Prepared, RotaryLimits};
 use geometry::Vec3;
-pub use posing::{pose_answer, set_up};
-use refusal::Refusal;
+pub use posing::{bounds_of, pose_answer, set_up};
 pub use solving::{
     clear_from, cone_good, path_chain, pose_in, put_joints, solve_check, solve_checked, solve_path,
     whole_records,
 };
 pub use unwinding::inside;
 
-// Where the path begins: at angles zero, or at given joints.
-#[derive(Clone, Copy)]
-pub enum Start {
-    AtZero,
-    From(Joints),
-}
-
-// One rotary whose axis is the singular direction, the second or the first, and the unit direction of that axis, in the sense of the spindle. The cone is the same about the opposite direction.
+// One rotary whose axis is the singular direction, the second or the first, and the unit direction of that axis, in the
+// sense of the spindle. The cone is the same about the opposite direction.
 #[derive(Clone, Copy)]
 pub struct SingularFrame {
     pub on_second: bool,
     pub direction: Vec3,
 }
 
-#[derive(Clone, Copy)]
-pub enum Frame {
-    Singular(SingularFrame),
-    Regular,
-}
-
 // How far each rotary may go, and its letter; `two`: there is a second one.
 #[derive(Clone, Copy)]
 pub struct Bounds {
     pub two: bool,
-    pub outer: Travel,
-    pub inner: Travel,
+    pub outer: Option<RotaryLimits>,
+    pub inner: Option<RotaryLimits>,
     pub first_letter: u8,
     pub second_letter: u8,
 }
 
-// What is the same for every pose of a path, made once for a call.
+// What is the same for every pose of a path, made once for a call. That the numbers of its chain are bounded is asked
+// by each function, and is no ghost field here: the definition `set_up` makes one of every chain.
 #[derive(Clone, Copy)]
 pub struct Setup {
     pub chain: Prepared,
     pub bounds: Bounds,
-    pub frame: Frame,
+    pub frame: Option<SingularFrame>,
     pub cone: f64,
-}
-
-// The nearest point of a circle, or none that is nearest.
-#[derive(Clone, Copy)]
-pub enum Nearest {
-    Point(Vec3),
-    Nothing,
-}
-
-// The angle that brings the tool axis nearest to its target, or none that is nearest.
-#[derive(Clone, Copy)]
-pub enum Fit {
-    Angle(f64),
-    Nothing,
-}
-
-// A solution of a pose before the limits, or none.
-#[derive(Clone, Copy)]
-pub enum Candidate {
-    At(Joints),
-    Nothing,
 }
 
 // A solution, unwound, and how far its angles are from the ones before.
@@ -86,11 +54,4 @@ pub enum Candidate {
 pub struct Ranked {
     pub joints: Joints,
     pub distance: f64,
-}
-
-// What a pose of a path is answered.
-#[derive(Clone, Copy)]
-pub enum PoseAnswer {
-    At(Joints),
-    Refused(Refusal),
 }

@@ -1,4 +1,5 @@
-// One pose of a path: its own checks, the cone or the exact solution, and the size of the angles. Which pose it is, is said here, once for every refusal.
+// One pose of a path: its own checks, the cone or the exact solution, and the size of the angles. Which pose it is, is
+// said here, once for every refusal.
 ghost use Rattle.std.specs.Prelude.{◌≡◌, true};
 ghost use Rattle.chain.specs.Check.{all_within, longest};
 ghost use Rattle.path.specs.Closest.{bounded};
@@ -9,13 +10,13 @@ ghost use Rattle.path.specs.Exact.{exact_pose};
 use crate::exact::exact_pose;
 use crate::locking::{cone_solution, refused};
 use crate::singular::{in_singular_cone, singular_frame};
-use crate::{Bounds, Frame, PoseAnswer, Setup, SingularFrame};
+use crate::{Bounds, Setup, SingularFrame};
 use chain::{Joints, Kinematics, ToolPose, within};
-use geometry::{Direction, Vec3};
+use geometry::Vec3;
 use inverse::Angles;
-use refusal::Refusal;
+use refusal::{Cause, Refusal};
 
-fn bounds_of(k: Kinematics) -> Bounds
+pub fn bounds_of(k: Kinematics) -> Bounds
     ensures { result ≡ S.bounds_of k }
 {
     let first = k.first;
@@ -48,22 +49,22 @@ pub fn set_up(k: Kinematics, cone: f64) -> Setup
 }
 
 // Whether the lock leaves a rotary's limits.
-fn leaves_limits(locked: PoseAnswer) -> bool
+fn leaves_limits(locked: Result<Joints, Refusal>) -> bool
     ensures { result ≡ S.leaves_limits locked }
 {
     match locked {
-        PoseAnswer::At(_) => false,
-        PoseAnswer::Refused(r) => r.number == refusal::LEAVES_AXIS,
+        Ok(_) => false,
+        Err(r) => r.cause == Cause::LeavesAxis,
     }
 }
 
 // Whether the exact rule has a solution with no angle past 36,000.
-fn succeeds(exact: PoseAnswer) -> bool
+fn succeeds(exact: Result<Joints, Refusal>) -> bool
     ensures { result ≡ S.succeeds exact }
 {
     match exact {
-        PoseAnswer::At(j) => turned_within(j),
-        PoseAnswer::Refused(_) => false,
+        Ok(j) => turned_within(j),
+        Err(_) => false,
     }
 }
 
@@ -75,7 +76,7 @@ fn locked_or_exact(
     target: Vec3,
     tip: Vec3,
     previous: Angles,
-) -> PoseAnswer
+) -> Result<Joints, Refusal>
     requires { (bounded s.chain ≡ true) × (all_within tip longest ≡ true) }
     ensures { result ≡ S.locked_or_exact (cone_solution s f target tip previous) (exact_pose s target tip previous) }
 {
@@ -91,12 +92,12 @@ fn locked_or_exact(
 }
 
 // Inside the cone locked, or exact where the lock leaves the limits; exact outside.
-fn solve_one(s: Setup, target: Vec3, tip: Vec3, previous: Angles) -> PoseAnswer
+#[tactic(auto, unfolding(crate::specs::Posing::solve_one))]
+fn solve_one(s: Setup, target: Vec3, tip: Vec3, previous: Angles) -> Result<Joints, Refusal>
     requires { (bounded s.chain ≡ true) × (all_within tip longest ≡ true) }
     ensures { result ≡ S.solve_one s target tip previous }
 {
-    let frame = s.frame;
-    let Frame::Singular(f) = frame else {
+    let Some(f) = s.frame else {
         return exact_pose(s, target, tip, previous);
     };
     if in_singular_cone(f, s.cone, target) {
@@ -109,55 +110,50 @@ fn solve_one(s: Setup, target: Vec3, tip: Vec3, previous: Angles) -> PoseAnswer
 fn turned_within(j: Joints) -> bool
     ensures { result ≡ S.turned_within j }
 {
-    if within(j.a0, 36000.0) {
-        return within(j.a1, 36000.0);
-    }
-    false
+    within(j.a0, 36000.0) && within(j.a1, 36000.0)
 }
 
-fn with_turns(answer: PoseAnswer) -> PoseAnswer
+fn with_turns(answer: Result<Joints, Refusal>) -> Result<Joints, Refusal>
     ensures { result ≡ S.with_turns answer }
 {
-    let PoseAnswer::At(j) = answer else {
-        return answer;
-    };
+    let j = answer?;
     if turned_within(j) {
-        return answer;
+        return Ok(j);
     }
-    refused(refusal::ANGLE_TOO_LARGE)
+    refused(Cause::AngleTooLarge)
 }
 
 // The tip's numbers, then the solution. `target` is a unit vector.
-fn solved_tip(s: Setup, target: Vec3, tip: Vec3, previous: Angles) -> PoseAnswer
+fn solved_tip(s: Setup, target: Vec3, tip: Vec3, previous: Angles) -> Result<Joints, Refusal>
     requires { bounded s.chain ≡ true }
     ensures { result ≡ S.solved_tip s target tip previous }
 {
     if !geometry::all_finite(tip) {
-        return refused(refusal::NOT_FINITE);
+        return refused(Cause::NotFinite);
     }
     if !chain::all_within(tip, 100000.0) {
-        return refused(refusal::TOO_LARGE);
+        return refused(Cause::TooLarge);
     }
     with_turns(solve_one(s, target, tip, previous))
 }
 
-fn solved_pose(s: Setup, pose: ToolPose, previous: Angles) -> PoseAnswer
+fn solved_pose(s: Setup, pose: ToolPose, previous: Angles) -> Result<Joints, Refusal>
     requires { bounded s.chain ≡ true }
     ensures { result ≡ S.solved_pose s pose previous }
 {
-    let Direction::Unit(target) = geometry::unit_direction(pose.axis) else {
-        return refused(refusal::POSE_UNREACHABLE);
+    let Some(target) = geometry::unit_direction(pose.axis) else {
+        return refused(Cause::PoseUnreachable);
     };
     solved_tip(s, target, pose.tip, previous)
 }
 
-fn at_pose(answer: PoseAnswer, index: u64) -> PoseAnswer
+fn at_pose(answer: Result<Joints, Refusal>, index: u64) -> Result<Joints, Refusal>
     ensures { result ≡ S.at_pose answer index }
 {
     match answer {
-        PoseAnswer::At(_) => answer,
-        PoseAnswer::Refused(r) => PoseAnswer::Refused(Refusal {
-            number: r.number,
+        Ok(_) => answer,
+        Err(r) => Err(Refusal {
+            cause: r.cause,
             at: index,
             letter: r.letter,
         }),
@@ -165,7 +161,12 @@ fn at_pose(answer: PoseAnswer, index: u64) -> PoseAnswer
 }
 
 // The joints of a pose, continuous with the angles before it, or its refusal.
-pub fn pose_answer(s: Setup, pose: ToolPose, previous: Angles, index: u64) -> PoseAnswer
+pub fn pose_answer(
+    s: Setup,
+    pose: ToolPose,
+    previous: Angles,
+    index: u64,
+) -> Result<Joints, Refusal>
     requires { bounded s.chain ≡ true }
     ensures { result ≡ S.pose_answer s pose previous index }
 {

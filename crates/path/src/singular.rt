@@ -1,11 +1,11 @@
-// The singular direction: where one rotary lies on the spindle and the other can tilt off it, the tool axis along that rotary leaves its angle free.
+// The singular direction: where one rotary lies on the spindle and the other can tilt off it, the tool axis along that
+// rotary leaves its angle free.
 ghost use Rattle.std.specs.Prelude.{◌≡◌};
 ghost use Rattle.path.specs.Singular as S;
 
-use crate::{Frame, SingularFrame};
+use crate::SingularFrame;
 use chain::{Mount, Prepared};
-use geometry::{Vec3, dot, scale};
-use trig::Answer;
+use geometry::{Vec3, dot};
 
 // The axis in the sense of a direction, by its part along that.
 fn in_sense(axis: Vec3, along: f64) -> Vec3
@@ -14,28 +14,34 @@ fn in_sense(axis: Vec3, along: f64) -> Vec3
     if 0.0 <= along {
         return axis;
     }
-    scale(axis, -1.0)
+    axis * -1.0
 }
 
 // With that rotary on the spindle, its part along it, and that of the other one.
-fn frame_on(on_second: bool, axis: Vec3, spindle: Vec3, best: f64, other: f64) -> Frame
+fn frame_on(
+    on_second: bool,
+    axis: Vec3,
+    spindle: Vec3,
+    best: f64,
+    other: f64,
+) -> Option<SingularFrame>
     ensures { result ≡ S.frame_on on_second axis spindle best other }
 {
     if best < 1.0 - 1e-6 {
-        return Frame::Regular;
+        return None;
     }
     if 1e-3 < other {
-        return Frame::Regular;
+        return None;
     }
     let direction = in_sense(axis, dot(axis, spindle));
-    Frame::Singular(SingularFrame {
+    Some(SingularFrame {
         on_second,
         direction,
     })
 }
 
 // Of two rotaries that are as near to the spindle the first.
-fn frame_of_two(first: Vec3, second: Vec3, spindle: Vec3) -> Frame
+fn frame_of_two(first: Vec3, second: Vec3, spindle: Vec3) -> Option<SingularFrame>
     ensures { result ≡ S.frame_of_two first second spindle }
 {
     let one = float::size(dot(first, spindle));
@@ -46,14 +52,14 @@ fn frame_of_two(first: Vec3, second: Vec3, spindle: Vec3) -> Frame
     frame_on(false, first, spindle, one, two)
 }
 
-pub fn singular_frame(p: Prepared) -> Frame
+pub fn singular_frame(p: Prepared) -> Option<SingularFrame>
     ensures { result ≡ S.singular_frame p }
 {
     let first = p.first;
     let second = p.second;
     let mount = second.mount;
     match mount {
-        Mount::Absent => Frame::Regular,
+        Mount::Absent => None,
         Mount::Table => frame_of_two(first.axis, second.axis, p.spindle),
         Mount::Head => frame_of_two(first.axis, second.axis, p.spindle),
     }
@@ -64,25 +70,23 @@ fn pole_clearance_deg(axis: Vec3, direction: Vec3) -> f64
     ensures { result ≡ S.pole_clearance_deg axis direction }
 {
     let cosine = float::clamp_unit(dot(axis, direction));
-    let Answer::Value(near) = trig::arccosine(cosine) else {
+    let Some(near) = trig::arccosine(cosine) else {
         return 180.0;
     };
-    let Answer::Value(far) = trig::arccosine(-cosine) else {
+    let Some(far) = trig::arccosine(-cosine) else {
         return 180.0;
     };
     float::to_degrees(float::minimum(near, far))
 }
 
 // Beyond 10 degrees of both poles, by the cosine: no cone has the axis in it, and no angle is needed.
+#[tactic(auto, unfolding(crate::specs::Singular::well_outside))]
 fn well_outside(cosine: f64, cone: f64) -> bool
     ensures { result ≡ S.well_outside cosine cone }
 {
-    if cone <= 10.0 {
-        if float::size(cosine) <= 0.984375 {
-            return 0.031005859375 <= (1.0 - cosine) * (1.0 + cosine);
-        }
-    }
-    false
+    cone <= 10.0
+        && float::size(cosine) <= 0.984375
+        && 0.031005859375 <= (1.0 - cosine) * (1.0 + cosine)
 }
 
 pub fn in_singular_cone(f: SingularFrame, cone: f64, axis: Vec3) -> bool

@@ -1,4 +1,5 @@
-// A path over lent numbers: six for a pose, five for a joint set. What is refused before the first pose keeps all that is lent; what is refused at a pose leaves +0.0 in the whole output.
+// A path over lent numbers: six for a pose, five for a joint set. What is refused before the first pose keeps all that
+// is lent; what is refused at a pose leaves +0.0 in the whole output.
 ghost use Rattle.std.specs.Prelude.{◌+◌, ◌*◌, ◌/◌, ◌≤◌, ◌≡◌, true, length, take};
 ghost use Rattle.float.specs.Helpers.{nought};
 ghost use Rattle.lists.specs.Padding.{padded};
@@ -7,11 +8,12 @@ ghost use Rattle.path.specs.Closest.{bounded};
 ghost use Rattle.path.specs.Solving as S;
 ghost use Rattle.path.specs.Promise.{OnPath, Served};
 
+use crate::Setup;
 use crate::posing::{pose_answer, set_up};
-use crate::{PoseAnswer, Setup, Start};
-use chain::{Checked, Joints, Kinematics, ToolPose, demand, then};
+use chain::{Joints, Kinematics, ToolPose, demand};
 use geometry::Vec3;
 use inverse::Angles;
+use refusal::{Cause, Refusal};
 
 // The pose whose six numbers begin there.
 pub fn pose_in(poses: &[f64], at: usize) -> ToolPose
@@ -49,15 +51,11 @@ pub fn clear_from(out: &mut [f64], from: usize)
     requires { from ≤ length out.old }
     ensures { out.new ≡ padded (length out.old) nought (take from out.old) }
 {
-    let mut i = from;
-    while i < out.len() {
-        out[i] = 0.0;
-        i += 1;
-    }
+    out[from..].fill(0.0);
 }
 
-// Two rotaries whose unit axes have a cross product shorter than 1e-9. Such a chain can have endless solutions, and which one a
-// path takes would depend on its start.
+// Two rotaries whose unit axes have a cross product shorter than 1e-9. Such a chain can have endless solutions, and
+// which one a path takes would depend on its start.
 fn parallel(k: Kinematics) -> bool
     ensures { result ≡ S.parallel k }
 {
@@ -72,127 +70,110 @@ fn parallel(k: Kinematics) -> bool
 }
 
 // The chain check of every call that walks a path: `inverse` and `choose` serve parallel rotaries, a path does not.
-pub fn path_chain(k: Kinematics) -> Checked
+#[tactic(auto, unfolding(crate::specs::Solving::path_chain))]
+pub fn path_chain(k: Kinematics) -> Result<(), Refusal>
     ensures { result ≡ S.path_chain k }
 {
-    let chain = chain::chain_check(k);
-    let apart = demand(!parallel(k), refusal::PARALLEL_ROTARIES, 0);
-    then(chain, apart)
+    chain::chain_check(k)?;
+    demand(!parallel(k), Cause::ParallelRotaries, 0)
 }
 
 // Above 0 and at most 10 degrees.
 pub fn cone_good(cone: f64) -> bool
     ensures { result ≡ S.cone_good cone }
 {
-    if float::finite(cone) {
-        if 0.0 < cone {
-            return cone <= 10.0;
-        }
-    }
-    false
+    float::finite(cone) && 0.0 < cone && cone <= 10.0
 }
 
-fn start_finite(start: Start) -> bool
+fn start_finite(start: Option<Joints>) -> bool
     ensures { result ≡ S.start_finite start }
 {
     match start {
-        Start::AtZero => true,
-        Start::From(j) => chain::joints_finite(j),
+        None => true,
+        Some(j) => chain::joints_finite(j),
     }
 }
 
-fn start_within(start: Start) -> bool
+fn start_within(start: Option<Joints>) -> bool
     ensures { result ≡ S.start_within start }
 {
     match start {
-        Start::AtZero => true,
-        Start::From(j) => chain::joints_within(j),
+        None => true,
+        Some(j) => chain::joints_within(j),
     }
 }
 
-fn start_angles(start: Start) -> Angles
+fn start_angles(start: Option<Joints>) -> Angles
     ensures { result ≡ S.start_angles start }
 {
     match start {
-        Start::AtZero => Angles { a0: 0.0, a1: 0.0 },
-        Start::From(j) => Angles { a0: j.a0, a1: j.a1 },
+        None => Angles { a0: 0.0, a1: 0.0 },
+        Some(j) => Angles { a0: j.a0, a1: j.a1 },
     }
 }
 
 pub fn whole_records(numbers: usize, room: usize) -> bool
     ensures { result ≡ S.whole_records numbers room }
 {
-    if numbers % 6 == 0 {
-        return room % 5 == 0;
-    }
-    false
+    numbers % 6 == 0 && room % 5 == 0
 }
 
-fn path_sizes(k: Kinematics, start: Start, count: usize) -> bool
+fn path_sizes(k: Kinematics, start: Option<Joints>, count: usize) -> bool
     ensures { result ≡ S.path_sizes k start count }
 {
-    if chain::chain_within(k) {
-        if start_within(start) {
-            return count <= 100000;
-        }
-    }
-    false
+    chain::chain_within(k) && start_within(start) && count <= 100000
 }
 
-pub fn solve_check(k: Kinematics, start: Start, cone: f64, numbers: usize, room: usize) -> Checked
+#[tactic(auto, unfolding(crate::specs::Solving::solve_check))]
+pub fn solve_check(
+    k: Kinematics,
+    start: Option<Joints>,
+    cone: f64,
+    numbers: usize,
+    room: usize,
+) -> Result<(), Refusal>
     ensures { result ≡ S.solve_check k start cone numbers room }
 {
-    let records = demand(whole_records(numbers, room), refusal::LENGTHS_DIFFER, 0);
-    let width = demand(cone_good(cone), refusal::CONE, 0);
-    let chain = path_chain(k);
-    let finite = demand(start_finite(start), refusal::NOT_FINITE, 0);
-    let sizes = demand(path_sizes(k, start, numbers / 6), refusal::TOO_LARGE, 0);
-    let space = demand(numbers / 6 <= room / 5, refusal::NO_SPACE, 0);
-    let begun = then(finite, then(sizes, space));
-    then(records, then(width, then(chain, begun)))
-}
-
-fn refusal_in(answer: PoseAnswer) -> Checked
-    ensures { result ≡ S.refusal_in answer }
-{
-    match answer {
-        PoseAnswer::At(_) => Checked::Passed,
-        PoseAnswer::Refused(r) => Checked::Refused(r),
-    }
+    demand(whole_records(numbers, room), Cause::LengthsDiffer, 0)?;
+    demand(cone_good(cone), Cause::Cone, 0)?;
+    path_chain(k)?;
+    demand(start_finite(start), Cause::NotFinite, 0)?;
+    demand(path_sizes(k, start, numbers / 6), Cause::TooLarge, 0)?;
+    demand(numbers / 6 <= room / 5, Cause::NoSpace, 0)
 }
 
 // Each pose in turn.
-fn solve_poses(s: Setup, start: Angles, poses: &[f64], out: &mut [f64]) -> Checked
+fn solve_poses(s: Setup, start: Angles, poses: &[f64], out: &mut [f64]) -> Result<(), Refusal>
     requires { (length poses.now / 6 * 5 ≤ length out.old) × (bounded s.chain ≡ true) }
     ensures checked { result ≡ S.checked_in (S.solve_poses s start 0 (S.poses_in poses.now)) }
     ensures lent { out.new ≡ S.path_over (S.solve_poses s start 0 (S.poses_in poses.now)) out.old }
 {
     let n = poses.len() / 6;
     let mut previous = start;
-    let mut i = 0;
-    while i < n {
+    for i in 0..n {
         let pose = pose_in(poses, i * 6);
-        let answer = pose_answer(s, pose, previous, i as u64);
-        let PoseAnswer::At(j) = answer else {
-            clear_from(out, 0);
-            return refusal_in(answer);
+        let j = match pose_answer(s, pose, previous, i as u64) {
+            Ok(j) => j,
+            Err(r) => {
+                out.fill(0.0);
+                return Err(r);
+            }
         };
         put_joints(j, out, i * 5);
         previous = Angles { a0: j.a0, a1: j.a1 };
-        i += 1;
     }
     clear_from(out, n * 5);
-    Checked::Passed
+    Ok(())
 }
 
 // Of a chain, a start and a cone that are checked, with space for every pose.
 pub fn solve_checked(
     k: Kinematics,
     poses: &[f64],
-    start: Start,
+    start: Option<Joints>,
     cone: f64,
     out: &mut [f64],
-) -> Checked
+) -> Result<(), Refusal>
     requires { (length poses.now / 6 * 5 ≤ length out.old) × (bounded (prepared k) ≡ true) }
     ensures checked { result ≡ S.checked_in (S.solve_checked k poses.now start cone) }
     ensures lent { out.new ≡ S.path_over (S.solve_checked k poses.now start cone) out.old }
@@ -203,14 +184,18 @@ pub fn solve_checked(
 }
 
 // The joints of every pose, or the first refusal.
-pub fn solve_path(k: Kinematics, poses: &[f64], start: Start, cone: f64, out: &mut [f64]) -> Checked
+#[tactic(auto, unfolding(crate::specs::Solving::solve_path, crate::specs::Solving::path_over))]
+pub fn solve_path(
+    k: Kinematics,
+    poses: &[f64],
+    start: Option<Joints>,
+    cone: f64,
+    out: &mut [f64],
+) -> Result<(), Refusal>
     ensures checked { result ≡ S.checked_in (S.solve_path k poses.now start cone (length out.old)) }
     ensures lent { out.new ≡ S.path_over (S.solve_path k poses.now start cone (length out.old)) out.old }
     ensures served { OnPath (Served k) (S.solve_path k poses.now start cone (length out.old)) }
 {
-    let checked = solve_check(k, start, cone, poses.len(), out.len());
-    if let Checked::Refused(_r) = checked {
-        return checked;
-    }
+    solve_check(k, start, cone, poses.len(), out.len())?;
     solve_checked(k, poses, start, cone, out)
 }

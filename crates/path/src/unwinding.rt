@@ -3,7 +3,7 @@ ghost use Rattle.std.specs.Prelude.{◌≡◌};
 ghost use Rattle.path.specs.Unwinding as S;
 
 use crate::Bounds;
-use chain::{Joints, Travel};
+use chain::{Joints, RotaryLimits};
 use inverse::Angles;
 
 // Turned on by that many whole turns; by none, the bits stay.
@@ -68,25 +68,20 @@ fn split(left: f64, right: f64) -> bool
 }
 
 // Whether a rotary that the chain has is on another branch.
+#[tactic(auto, unfolding(crate::specs::Unwinding::different_branch))]
 pub fn different_branch(two: bool, left: Joints, right: Joints) -> bool
     ensures { result ≡ S.different_branch two left right }
 {
-    if split(left.a0, right.a0) {
-        return true;
-    }
-    if two {
-        return split(left.a1, right.a1);
-    }
-    false
+    split(left.a0, right.a0) || (two && split(left.a1, right.a1))
 }
 
 // Within the limits, or finite where there are none.
-fn permits(travel: Travel, angle: f64) -> bool
+fn permits(travel: Option<RotaryLimits>, angle: f64) -> bool
     ensures { result ≡ S.permits travel angle }
 {
     match travel {
-        Travel::Within(limits) => limits.contains(angle),
-        Travel::Unlimited => float::finite(angle),
+        Some(limits) => limits.contains(angle),
+        None => float::finite(angle),
     }
 }
 
@@ -97,24 +92,19 @@ fn first_inside(b: Bounds, j: Joints) -> bool
     permits(outer, j.a0)
 }
 
+#[tactic(auto, unfolding(crate::specs::Unwinding::second_inside))]
 fn second_inside(b: Bounds, j: Joints) -> bool
     ensures { result ≡ S.second_inside b j }
 {
-    if b.two {
-        let inner = b.inner;
-        return permits(inner, j.a1);
-    }
-    true
+    let inner = b.inner;
+    !b.two || permits(inner, j.a1)
 }
 
 // Whether every rotary is within its limits.
 pub fn inside(b: Bounds, j: Joints) -> bool
     ensures { result ≡ S.inside b j }
 {
-    if first_inside(b, j) {
-        return second_inside(b, j);
-    }
-    false
+    first_inside(b, j) && second_inside(b, j)
 }
 
 // The letter of the first rotary that is outside, of joints that are not inside.

@@ -9,28 +9,27 @@ use lib.Dec.{leb}
 use lib.Ieee.{Float}
 use lib.ListN.{length, take, length-map}
 use lib.Seq.{take_all}
+use Rattle.std.specs.Prelude.{Err, Ok, Option}
 use Rattle.lists.specs.Rows.{flat}
 use Rattle.lists.proofs.Padding.{take_padded}
 use Rattle.lists.proofs.Rows.{rows_flat, length_flat}
 use Rattle.float.specs.Helpers.{nought}
-use Rattle.chain.specs.declared.Checked.{Checked}
+use Rattle.chain.specs.Checked.{Checked}
 use Rattle.chain.specs.declared.Joints.{Joints}
 use Rattle.chain.specs.declared.Kinematics.{Kinematics}
 use Rattle.chain.specs.declared.Prepared.{Prepared}
 use Rattle.chain.specs.Prepared.{prepared}
-use Rattle.path.specs.declared.Start.{Start}
 use Rattle.path.specs.Solving.{PathAnswer, joint_numbers}
 use Rattle.path.specs.Solving as Path
 use Rattle.halving.specs.Halving.{Answer, Done, TooMany, NoSpace, halve}
 use Rattle.halving.proofs.Ends.{result}
-use Rattle.divide.specs.declared.Division.{Division}
 use Rattle.middle.specs.declared.Item.{Item}
 use Rattle.middle.specs.declared.Tolerances.{Tolerances}
 use Rattle.divide.specs.Checking.{division_check}
 use Rattle.middle.specs.Testing.{midpoint, divides}
 use Rattle.turn.specs.Turning.{most}
 use Rattle.machine.specs.Dividing.{division}
-use Rattle.divide.specs.Subdividing.{DivisionAnswer, Kept, AtPose, Cleared, Halved, division_in, joints_left, given, division_within, unless_kept, subdivide_path, clearing, after_solving, solved_path, solve_and_divide}
+use Rattle.divide.specs.Subdividing.{DivisionAnswer, Kept, AtPose, Cleared, Halved, division_in, joints_left, given, division_within, unless_kept, subdivide_path, clearing, after_solving, solved_path, solve_and_divide, Division}
 use Rattle.turn.specs.Items.{space_in}
 use Rattle.turn.proofs.Stored.{joints_codec, items_length}
 use Rattle.job.specs.Cable.{joint_sets}
@@ -65,8 +64,8 @@ sized_within p tol space g = by_space (leb (length g) space) refl
     by_space false e = tt
 
 sized_unless : (c : Checked) (n space : ℕ) (a : DivisionAnswer) → Sized n space a → Sized n space (unless_kept c a)
-sized_unless Checked.Passed n space a s = s
-sized_unless (Checked.Refused r) n space a s = tt
+sized_unless (Ok _) n space a s = s
+sized_unless (Err r) n space a s = tt
 
 sized_path : (k : Kinematics) (tol : Tolerances) (poses joints : List Float) (roomPoses roomJoints : ℕ) → Sized (length poses / 6) (space_in roomPoses roomJoints) (subdivide_path k tol poses joints roomPoses roomJoints)
 unfolding subdivide_path
@@ -85,7 +84,7 @@ sized_after (Path.Along l) f n space s = sized_cleared n space (f l) (s l)
 sized_after (Path.AtPose r) f n space s = tt
 sized_after (Path.Kept r) f n space s = tt
 
-pub sized : (k : Kinematics) (poses : List Float) (start : Start) (cone : Float) (tol : Tolerances) → Sized (length poses / 6) 700 (solve_and_divide k poses start cone tol 4200 3500)
+pub sized : (k : Kinematics) (poses : List Float) (start : Option Joints) (cone : Float) (tol : Tolerances) → Sized (length poses / 6) 700 (solve_and_divide k poses start cone tol 4200 3500)
 unfolding solve_and_divide space_in
 sized k poses start cone tol =
     sized_after (solved_path k poses start cone 4200 3500) (λ l. subdivide_path k tol poses (flat joint_numbers l) 4200 3500) (length poses / 6) 700 (λ l. sized_path k tol poses (flat joint_numbers l) 4200 3500)

@@ -6,23 +6,29 @@ use mathlib.Core.Bool.{Bool, true, false}
 use mathlib.Core.List.{List, [], ◌∷◌, ◌++◌, append-nil, append_assoc}
 use mir.Val.{Val}
 use denote.Laws.{Is}
+use denote.RattleType.{RattleType}
 use borrow.Author.Rules.{rules}
 use borrow.Author.Tests.{ltb-true, ltb-false, le-leb}
 use lib.Dec.{ltb}
 use lib.Ieee.{Float}
 use lib.ListN.{length, take, drop, set, length-set, length-append, take-append-drop}
 use Rattle.lists.proofs.Fold.{pushed}
+use Rattle.std.specs.contracts.result.Result as ResultRow
+use Rattle.std.specs.Prelude.{Err, Ok}
+use Rattle.std.specs.Result.{result_unwrap_or}
+use Rattle.refusal.specs.Numbers.{number_of}
+use Rattle.refusal.specs.declared.Cause.{Cause}
 use Rattle.refusal.specs.declared.Refusal.{Refusal}
 use Rattle.chain.specs.declared.Joints.{Joints}
-use Rattle.job.specs.declared.Ended.{Ended}
+use Rattle.job.specs.declared.JobError.{JobError}
 use Rattle.job.specs.declared.Figures.{Figures}
 use Rattle.job.specs.Cable.{joint_sets}
 use Rattle.job.specs.Spelling.{written, width}
-use Rattle.job.specs.Telling.{lines_length, head_length, path_text, refusal_text, pose_text, text_of, told, told_over}
-use Rattle.job.specs.contracts.Ended as Row
+use Rattle.job.specs.Telling.{Ended, lines_length, head_length, path_text, refusal_text, pose_text, text_of, told, told_over}
+use Rattle.job.specs.contracts.Figures as FiguresRow
+use Rattle.job.specs.contracts.JobError as ErrorRow
 use Rattle.job.proofs.Written.{width_small, width_more, width_word, length_labelled, length_paired}
 use Rattle.job.proofs.Texts.{length_path, length_sets}
-use Rattle.post.specs.Steps.{end_of}
 
 -- ---- the front of a buffer
 take_behind : (l : List ℕ) (at : ℕ) (t : List ℕ) → at + length t ≤ length l → take (at + length t) (written l at t) ≡ take at l ++ t
@@ -51,7 +57,7 @@ lies_within end l t h =
     omega (arith, p, q, r)
 
 -- a text that has room is told whole
-told_whole : (t out out' : List ℕ) (end : ℕ) → length t ≤ length out → end ≡ end_of (told t (length out)) → out' ≡ told_over t out → (end ≡ length t) × (take end out' ≡ t)
+told_whole : (t out out' : List ℕ) (end : ℕ) → length t ≤ length out → end ≡ result_unwrap_or (told t (length out)) 0 → out' ≡ told_over t out → (end ≡ length t) × (take end out' ≡ t)
 unfolding told told_over
 told_whole t out out' end h e f =
     let r = le-leb (length t) (length out) h in
@@ -87,17 +93,58 @@ lines_short (suc n) h =
     let g = three_digits n (omega (arith, h)) in
     omega (arith, f, g)
 
+-- every cause has a small number
+small_number : (cause : Cause) → number_of cause < 2 ^ 64
+small_number Cause.NameEmpty = omega arith
+small_number Cause.NameTooLong = omega arith
+small_number Cause.RotaryCount = omega arith
+small_number Cause.RotaryLetter = omega arith
+small_number Cause.LetterTwice = omega arith
+small_number Cause.ChainNotFinite = omega arith
+small_number Cause.RotaryAxisZero = omega arith
+small_number Cause.LimitsRefused = omega arith
+small_number Cause.SpindleZero = omega arith
+small_number Cause.TooManyLinks = omega arith
+small_number Cause.LinkNameTwice = omega arith
+small_number Cause.CarrierUnknown = omega arith
+small_number Cause.SolidBad = omega arith
+small_number Cause.ToolLength = omega arith
+small_number Cause.ToolAxisZero = omega arith
+small_number Cause.NotFinite = omega arith
+small_number Cause.TooLarge = omega arith
+small_number Cause.Cone = omega arith
+small_number Cause.Tolerance = omega arith
+small_number Cause.LengthsDiffer = omega arith
+small_number Cause.NotReachable = omega arith
+small_number Cause.OutsideLimits = omega arith
+small_number Cause.BranchFlips = omega arith
+small_number Cause.LeavesAxis = omega arith
+small_number Cause.PoseUnreachable = omega arith
+small_number Cause.AngleTooLarge = omega arith
+small_number Cause.TooManyInsertions = omega arith
+small_number Cause.NoSpace = omega arith
+small_number Cause.Malformed = omega arith
+small_number Cause.ParallelRotaries = omega arith
+small_number Cause.ToothMisses = omega arith
+small_number Cause.QueueFull = omega arith
+small_number Cause.NotAdmitted = omega arith
+small_number Cause.UnknownShop = omega arith
+small_number Cause.BalanceShort = omega arith
+
 -- every number of an answer has 64 bits
+abbrev Row : RattleType
+Row = ResultRow.the_row FiguresRow.the_row ErrorRow.the_row
+
 abbrev Small : Ended → Type 0
-Small (Ended.Divided f) = (f.inserted < 2 ^ 64) × ((f.first < 2 ^ 64) × (f.second < 2 ^ 64))
-Small (Ended.Refused r) = r.number < 2 ^ 64
-Small (Ended.AtPose r) = (r.number < 2 ^ 64) × (r.at < 2 ^ 64)
+Small (Ok f) = (f.inserted < 2 ^ 64) × ((f.first < 2 ^ 64) × (f.second < 2 ^ 64))
+Small (Err (JobError.Refused r)) = Unit {0}
+Small (Err (JobError.AtPose r)) = r.at < 2 ^ 64
 
 -- which its type says
-small : (e : Ended) (vs : List Val) → Is Row.the_row e vs → Small e
-small (Ended.Divided f) vs g = search (rules, g)
-small (Ended.Refused r) vs g = search (rules, g)
-small (Ended.AtPose r) vs g = search (rules, g)
+small : (e : Ended) (vs : List Val) → Is Row e vs → Small e
+small (Ok f) vs g = search (rules, g)
+small (Err (JobError.Refused r)) vs g = tt
+small (Err (JobError.AtPose r)) vs g = search (rules, g)
 
 path_short : (f : Figures) (l : List Joints) → length l ≤ 700 → f.inserted < 2 ^ 64 → f.first < 2 ^ 64 → f.second < 2 ^ 64 → length (path_text f l) ≤ 65536
 unfolding head_length
@@ -110,27 +157,27 @@ path_short f l h a b c =
     let k = width_word f.second c in
     omega (arith, e, s, n, i, j, k, h)
 
-refusal_short : (r : Refusal) → r.number < 2 ^ 64 → length (refusal_text r) ≤ 65536
+refusal_short : (r : Refusal) → length (refusal_text r) ≤ 65536
 unfolding refusal_text
-refusal_short r a =
-    let n = width_word r.number a in
+refusal_short r =
+    let n = width_word (number_of r.cause) (small_number r.cause) in
     rw (length-append, length_labelled) (omega (arith, n))
 
-pose_short : (r : Refusal) → r.number < 2 ^ 64 → r.at < 2 ^ 64 → length (pose_text r) ≤ 65536
+pose_short : (r : Refusal) → r.at < 2 ^ 64 → length (pose_text r) ≤ 65536
 unfolding pose_text
-pose_short r a b =
-    let n = width_word r.number a in
+pose_short r b =
+    let n = width_word (number_of r.cause) (small_number r.cause) in
     let m = width_word r.at b in
     rw (length-append, length_paired) (omega (arith, n, m))
 
 text_short : (ended : Ended) (l : List Joints) → Small ended → length l ≤ 700 → length (text_of ended l) ≤ 65536
-text_short (Ended.Divided f) l s h = path_short f l h s.0 s.1.0 s.1.1
-text_short (Ended.Refused r) l s h = refusal_short r s
-text_short (Ended.AtPose r) l s h = pose_short r s.0 s.1
+text_short (Ok f) l s h = path_short f l h s.0 s.1.0 s.1.1
+text_short (Err (JobError.Refused r)) l s h = refusal_short r
+text_short (Err (JobError.AtPose r)) l s h = pose_short r s
 
 -- so that a path of at most 700 joint sets is told whole
-pub told_path : (ended : Ended) (vs : List Val) (path : List Float) (out out' : List ℕ) (end : ℕ) → Is Row.the_row ended vs → length path / 5 ≤ 700 → 65536 ≤ length out
-    → end ≡ end_of (told (text_of ended (joint_sets path)) (length out)) → out' ≡ told_over (text_of ended (joint_sets path)) out
+pub told_path : (ended : Ended) (vs : List Val) (path : List Float) (out out' : List ℕ) (end : ℕ) → Is Row ended vs → length path / 5 ≤ 700 → 65536 ≤ length out
+    → end ≡ result_unwrap_or (told (text_of ended (joint_sets path)) (length out)) 0 → out' ≡ told_over (text_of ended (joint_sets path)) out
     → (end ≡ length (text_of ended (joint_sets path))) × (take end out' ≡ text_of ended (joint_sets path))
 told_path ended vs path out out' end g few room e f =
     let n = length_sets path in

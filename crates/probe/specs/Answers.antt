@@ -1,15 +1,15 @@
 -- What the exported functions answer beyond the definitions of `float`: a comparison as a number, many roots at once,
 -- and a pair of waves in two lent numbers.
-use Rattle.std.specs.Prelude.{ℕ, min, List, ◌++◌, map, length, take, drop, Float}
+use Rattle.std.specs.Prelude.{ℕ, min, List, ◌++◌, map, length, take, drop, Float, None, Option, Some}
+use Rattle.trig.specs.declared.Pair.{Pair}
 use Rattle.root.specs.Root.{root}
-use Rattle.float.specs.declared.Comparison.{Comparison}
-use Rattle.float.specs.declared.Comparison.TheVariants.{Less, Equal, Greater}
-use Rattle.trig.specs.declared.PairAnswer.{PairAnswer}
-use Rattle.trig.specs.declared.PairAnswer.TheVariants.{Values, OutOfRange}
-use Rattle.refusal.specs.Numbers.{served, too_large}
+use Rattle.std.specs.declared.cmp.Ordering.{Ordering}
+use Rattle.std.specs.declared.cmp.Ordering.TheVariants.{Less, Equal, Greater}
+use Rattle.refusal.specs.Numbers.{number_of, served}
+use Rattle.refusal.specs.declared.Cause.{Cause}
 
 -- the number of a comparison
-abbrev pub number : Comparison → ℕ
+abbrev pub number : Ordering → ℕ
 number Less = 0
 number Equal = 1
 number Greater = 2
@@ -21,14 +21,14 @@ roots_over xs ys =
     map root (take n xs) ++ drop n ys
 
 -- of a pair: its number, and each lent number afterwards
-abbrev pub pair_number : PairAnswer → ℕ
-pair_number (Values p) = served
-pair_number OutOfRange = too_large
+abbrev pub pair_number : Option Pair → ℕ
+pair_number (Some p) = served
+pair_number None = number_of Cause.TooLarge
 
-abbrev pub sine_over : PairAnswer → Float → Float
-sine_over (Values p) before = p.sine
-sine_over OutOfRange before = before
+abbrev pub sine_over : Option Pair → Float → Float
+sine_over (Some p) before = p.sine
+sine_over None before = before
 
-abbrev pub cosine_over : PairAnswer → Float → Float
-cosine_over (Values p) before = p.cosine
-cosine_over OutOfRange before = before
+abbrev pub cosine_over : Option Pair → Float → Float
+cosine_over (Some p) before = p.cosine
+cosine_over None before = before

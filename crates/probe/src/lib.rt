@@ -5,7 +5,7 @@
 
 mod forwards;
 
-ghost use Rattle.std.specs.Prelude.{min, ◌≡◌};
+ghost use Rattle.std.specs.Prelude.{◌≡◌};
 ghost use Rattle.std.specs.Float.Ieee.Scale.{finite as is_finite};
 ghost use Rattle.float.specs.Helpers as S;
 ghost use Rattle.float.specs.TotalOrder as Total;
@@ -14,8 +14,9 @@ ghost use Rattle.trig.specs.Waves as Waves;
 ghost use Rattle.trig.specs.DegreeSteps as DegreeSteps;
 ghost use Rattle.probe.specs.Answers.{number, roots_over, pair_number, sine_over, cosine_over};
 
-use float::Comparison;
-use trig::PairAnswer;
+use refusal::Cause;
+use std::cmp::Ordering;
+use trig::Pair;
 
 #[unsafe(no_mangle)]
 pub extern "C" fn probe_finite(x: f64) -> bool
@@ -93,9 +94,9 @@ pub extern "C" fn probe_total_cmp(x: f64, y: f64) -> u32
     ensures { result ≡ number (Total.total_compare x y) }
 {
     match float::total_cmp(x, y) {
-        Comparison::Less => 0,
-        Comparison::Equal => 1,
-        Comparison::Greater => 2,
+        Ordering::Less => 0,
+        Ordering::Equal => 1,
+        Ordering::Greater => 2,
     }
 }
 
@@ -104,18 +105,11 @@ pub extern "C" fn probe_total_cmp(x: f64, y: f64) -> u32
 pub extern "C" fn probe_roots(xs: &[f64], answers: &mut [f64])
     ensures { answers.new ≡ roots_over xs.now answers.old }
 {
-    let n = shorter(xs.len(), answers.len());
-    let mut i: usize = 0;
-    while i < n {
+    let n = xs.len().min(answers.len());
+    // Tried as a `zip` of `iter_mut`: no law says what its writes leave in the slice, so the proof did not close.
+    for i in 0..n {
         answers[i] = root::root(xs[i]);
-        i += 1;
     }
-}
-
-fn shorter(a: usize, b: usize) -> usize
-    ensures { result ≡ min a b }
-{
-    if a < b { a } else { b }
 }
 
 // Both of an angle in radians, from one reduction: 0 and both written, or 17 and both kept.
@@ -125,14 +119,7 @@ pub extern "C" fn probe_sine_cosine(x: f64, sine: &mut f64, cosine: &mut f64) ->
     ensures sine { sine.new ≡ sine_over (Waves.paired (Waves.sine_of x) (Waves.cosine_of x)) sine.old }
     ensures cosine { cosine.new ≡ cosine_over (Waves.paired (Waves.sine_of x) (Waves.cosine_of x)) cosine.old }
 {
-    match trig::sine_cosine(x) {
-        PairAnswer::Values(both) => {
-            *sine = both.sine;
-            *cosine = both.cosine;
-            0
-        }
-        PairAnswer::OutOfRange => refusal::TOO_LARGE,
-    }
+    hand_over(trig::sine_cosine(x), sine, cosine)
 }
 
 // Both of an angle in degrees, by which a turn is made: 0 and both written, or 17 and both kept.
@@ -142,12 +129,21 @@ pub extern "C" fn probe_turn(x: f64, sine: &mut f64, cosine: &mut f64) -> u32
     ensures sine { sine.new ≡ sine_over (DegreeSteps.degree_pair x) sine.old }
     ensures cosine { cosine.new ≡ cosine_over (DegreeSteps.degree_pair x) cosine.old }
 {
-    match trig::of_degrees(x) {
-        PairAnswer::Values(both) => {
+    hand_over(trig::of_degrees(x), sine, cosine)
+}
+
+// 0 and both written, or 17 and both kept.
+fn hand_over(pair: Option<Pair>, sine: &mut f64, cosine: &mut f64) -> u32
+    ensures number { result ≡ pair_number pair }
+    ensures sine { sine.new ≡ sine_over pair sine.old }
+    ensures cosine { cosine.new ≡ cosine_over pair cosine.old }
+{
+    match pair {
+        Some(both) => {
             *sine = both.sine;
             *cosine = both.cosine;
             0
         }
-        PairAnswer::OutOfRange => refusal::TOO_LARGE,
+        None => Cause::TooLarge.number(),
     }
 }

@@ -9,10 +9,12 @@ use borrow.Author.Tests.{ltb-true, ltb-false, le-ltb, leb-true, lt-ltb, le-leb, 
 use lib.Dec.{ltb, leb, eqb}
 use lib.ListN.{length, get_or, set, replicate, length-set}
 use lib.Seq.{get_or-set_same, get_or-set_other, set-get_or, set_out}
+use Rattle.std.specs.Prelude.{Err, Ok}
 use Rattle.lists.specs.Each.{Each}
 use Rattle.lists.specs.Fold.{fold}
-use Rattle.refusal.specs.Numbers.{refusal, lengths_differ, too_large, unknown_shop, balance_short}
-use Rattle.chain.specs.declared.Checked.{Checked}
+use Rattle.refusal.specs.Numbers.{refusal}
+use Rattle.refusal.specs.declared.Cause.{Cause}
+use Rattle.chain.specs.Checked.{Checked}
 use Rattle.chain.specs.Check.{demand, then}
 use Rattle.divide.specs.Subdividing.{DivisionAnswer, Cleared, unless_kept}
 use Rattle.quota.specs.Quota.{shops, most_balance, balance_of, no_balances, shop_check, grant_check, charge, settled, charged_division}
@@ -23,13 +25,13 @@ settled_most : (balance : ℕ) (plain : DivisionAnswer) → charge (settled bala
 unfolding settled
 settled_most balance plain = go (leb (charge plain) balance) refl
   where
-    go : (t : Bool) → leb (charge plain) balance ≡ t → charge (cond t plain (Cleared (refusal balance_short 0))) ≤ balance
+    go : (t : Bool) → leb (charge plain) balance ≡ t → charge (cond t plain (Cleared (refusal Cause.BalanceShort 0))) ≤ balance
     go true e = leb-true (charge plain) balance e
     go false e = unfold charge in omega arith
 
 unless_most : (c : Checked) (balance : ℕ) (plain : DivisionAnswer) → charge (unless_kept c (settled balance plain)) ≤ balance
-unless_most Checked.Passed balance plain = settled_most balance plain
-unless_most (Checked.Refused r) balance plain = unfold charge in omega arith
+unless_most (Ok _) balance plain = settled_most balance plain
+unless_most (Err r) balance plain = unfold charge in omega arith
 
 charge_most : (b : List ℕ) (c : Call) → charge_in b c ≤ balance_of b (shop_of c)
 unfolding charge_in charged_division
@@ -38,7 +40,7 @@ charge_most b (Divide shop plain) = unless_most (shop_check (length b) shop) (ba
 
 -- and no grant takes a balance above the limit
 checked_most : (known counted room : Bool) (balance amount : ℕ) → balance ≤ most_balance → (room ≡ true → balance + amount ≤ most_balance)
-    → balance + if_passed (then (demand known unknown_shop 0) (then (demand counted lengths_differ 0) (demand room too_large 0))) amount ≤ most_balance
+    → balance + if_passed (then (demand known Cause.UnknownShop 0) (then (demand counted Cause.LengthsDiffer 0) (demand room Cause.TooLarge 0))) amount ≤ most_balance
 checked_most true true true balance amount h w = w refl
 checked_most true true false balance amount h w = omega (arith, h)
 checked_most true false room balance amount h w = omega (arith, h)
@@ -170,16 +172,16 @@ nothing zero shop = refl
 nothing (suc n) zero = refl
 nothing (suc n) (suc shop) = nothing n shop
 
-grant_passes : (b : List ℕ) (shop amount : ℕ) → length b ≡ shops → shop < shops → balance_of b shop + amount ≤ most_balance → grant_check b shop amount ≡ Checked.Passed
+grant_passes : (b : List ℕ) (shop amount : ℕ) → length b ≡ shops → shop < shops → balance_of b shop + amount ≤ most_balance → grant_check b shop amount ≡ Ok tt
 unfolding grant_check
 grant_passes b shop amount long h w = rw (lt-ltb shop shops h, eq-eqb (length b) shops long, le-leb (balance_of b shop + amount) most_balance w)
 
 grant_above : (b : List ℕ) (shop amount : ℕ) → length b ≡ shops → shop < shops → most_balance < balance_of b shop + amount
-    → grant_check b shop amount ≡ Checked.Refused (refusal too_large 0)
+    → grant_check b shop amount ≡ Err (refusal Cause.TooLarge 0)
 unfolding grant_check
 grant_above b shop amount long h w = rw (lt-ltb shop shops h, eq-eqb (length b) shops long, lt-leb (balance_of b shop + amount) most_balance w)
 
-grant_counts : (b : List ℕ) (shop amount : ℕ) → length b ≡ shops → shop < shops → grant_check b shop amount ≡ Checked.Passed → balance_of (after b (Grant shop amount)) shop ≡ balance_of b shop + amount
+grant_counts : (b : List ℕ) (shop amount : ℕ) → length b ≡ shops → shop < shops → grant_check b shop amount ≡ Ok tt → balance_of (after b (Grant shop amount)) shop ≡ balance_of b shop + amount
 grant_counts b shop amount long h p =
     let s = own b (Grant shop amount) (omega (arith, h, long)) in
     let g : grant_in b (Grant shop amount) ≡ amount = unfold grant_in in rw p in

@@ -1,9 +1,10 @@
 -- Rows of calls on balances that are lent to each of them, and what holds of every row.
-use Rattle.std.specs.Prelude.{cond, ◌≡◌, List, [], ◌∷◌, ℕ, ◌+◌, ◌-◌, ◌≤◌, ◌<◌, eqb, set}
+use Rattle.std.specs.Prelude.{cond, ◌≡◌, List, [], ◌∷◌, ℕ, ◌+◌, ◌-◌, ◌≤◌, ◌<◌, eqb, set, Err, Ok}
+use Rattle.chain.specs.Checked.{Checked}
 use Rattle.lists.specs.Each.{Each}
 use Rattle.lists.specs.Fold.{fold}
-use Rattle.refusal.specs.Numbers.{refusal, too_large}
-use Rattle.chain.specs.declared.Checked.{Checked}
+use Rattle.refusal.specs.Numbers.{refusal}
+use Rattle.refusal.specs.declared.Cause.{Cause}
 use Rattle.divide.specs.Subdividing.{DivisionAnswer}
 use Rattle.quota.specs.Quota.{shops, most_balance, balance_of, no_balances, grant_check, charge, charged_division}
 
@@ -19,8 +20,8 @@ shop_of (Divide shop plain) = shop
 
 -- ---- what a call grants and what it charges where the balances are b: nothing if it is refused
 abbrev pub if_passed : Checked → ℕ → ℕ
-if_passed Checked.Passed n = n
-if_passed (Checked.Refused r) n = 0
+if_passed (Ok _) n = n
+if_passed (Err r) n = 0
 
 unfoldable pub grant_in : List ℕ → Call → ℕ
 grant_in b (Grant shop amount) = if_passed (grant_check b shop amount) amount
@@ -63,12 +64,12 @@ pub record Accounts (row : List Call) : Type 0 where
       → balance_of (fold after (balances_after row) others) shop ≡ balance_of (balances_after row) shop
   -- "A grant that takes a balance above 1,000,000,000 is 17"
   pub above : (shop amount : ℕ) → shop < shops → most_balance < balance_of (balances_after row) shop + amount
-      → grant_check (balances_after row) shop amount ≡ Checked.Refused (refusal too_large 0)
+      → grant_check (balances_after row) shop amount ≡ Err (refusal Cause.TooLarge 0)
   -- "and changes nothing", as every call that grants and charges nothing
   pub unchanged : (c : Call) → grant_in (balances_after row) c ≡ 0 → charge_in (balances_after row) c ≡ 0 → after (balances_after row) c ≡ balances_after row
   -- "every other to a known shop counts"
   pub counts : (shop amount : ℕ) → shop < shops → balance_of (balances_after row) shop + amount ≤ most_balance
-      → (grant_check (balances_after row) shop amount ≡ Checked.Passed)
+      → (grant_check (balances_after row) shop amount ≡ Ok tt)
       × (balance_of (after (balances_after row) (Grant shop amount)) shop ≡ balance_of (balances_after row) shop + amount)
   -- so no balance is ever above the limit
   pub limit : (shop : ℕ) → balance_of (balances_after row) shop ≤ most_balance

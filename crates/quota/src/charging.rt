@@ -1,5 +1,5 @@
-// A division that is charged to a shop: the shop's check, the plain division, and its count taken from the balance. Where the balance
-// is below the count both outputs become +0.0 and the balance is kept.
+// A division that is charged to a shop: the shop's check, the plain division, and its count taken from the balance.
+// Where the balance is below the count both outputs become +0.0 and the balance is kept.
 ghost use Rattle.std.specs.Prelude.{◌<◌, ◌≡◌, length};
 ghost use Rattle.divide.specs.Subdividing.{subdivide_path, division_in, poses_left, joints_left};
 ghost use Rattle.quota.specs.Quota as S;
@@ -8,41 +8,26 @@ ghost use Rattle.quota.specs.Charged.{Charged};
 ghost use Rattle.quota.specs.QuotaSteps as Steps;
 
 use crate::granting::shop_check;
-use chain::{Checked, Kinematics};
-use divide::Division;
-use machine::Divided;
+use chain::Kinematics;
+use divide::DivisionError;
 use middle::Tolerances;
-use refusal::Refusal;
-
-fn ended_charge(ended: Divided) -> u64
-    ensures { result ≡ Steps.ended_charge ended }
-{
-    match ended {
-        Divided::Done(n) => n,
-        Divided::TooMany(_n) => 0,
-        Divided::NoSpace(_n) => 0,
-    }
-}
+use refusal::{Cause, Refusal};
 
 // The reported count of a division that succeeds; a refused one is charged nothing.
-fn charge_of(said: Division) -> u64
+fn charge_of(said: Result<u64, DivisionError>) -> u64
     ensures { result ≡ Steps.charge_of said }
 {
-    match said {
-        Division::Refused(_) => 0,
-        Division::AtPose(_) => 0,
-        Division::Ended(ended) => ended_charge(ended),
-    }
+    said.unwrap_or(0)
 }
 
 // Charges a division whose outputs are there already.
 pub fn settle(
-    said: Division,
+    said: Result<u64, DivisionError>,
     balances: &mut [u64],
     shop: usize,
     poses: &mut [f64],
     joints: &mut [f64],
-) -> Division
+) -> Result<u64, DivisionError>
     requires { shop < length balances.old }
     ensures answer { result ≡ Steps.settled_said (S.balance_of balances.old shop) said }
     ensures poses { poses.new ≡ Steps.settled_over (S.balance_of balances.old shop) said poses.old }
@@ -55,13 +40,9 @@ pub fn settle(
         balances[shop] = balance - charge;
         return said;
     }
-    path::clear_from(poses, 0);
-    path::clear_from(joints, 0);
-    Division::Refused(Refusal {
-        number: refusal::BALANCE_SHORT,
-        at: 0,
-        letter: 0,
-    })
+    poses.fill(0.0);
+    joints.fill(0.0);
+    Err(DivisionError::Refused(Refusal::new(Cause::BalanceShort, 0)))
 }
 
 // The given poses with their joint sets divided for a shop.
@@ -74,7 +55,7 @@ pub fn divide_for(
     solved: &[f64],
     poses: &mut [f64],
     joints: &mut [f64],
-) -> Division
+) -> Result<u64, DivisionError>
     ensures answer { let plain = subdivide_path k tol given.now solved.now (length poses.old) (length joints.old) in
         result ≡ division_in (S.charged_division balances.old shop plain) }
     ensures poses { let plain = subdivide_path k tol given.now solved.now (length poses.old) (length joints.old) in
@@ -86,10 +67,7 @@ pub fn divide_for(
     ensures price { let plain = subdivide_path k tol given.now solved.now (length poses.old) (length joints.old) in
         Charged balances.old shop plain k tol given.now solved.now (length poses.old) (length joints.old) result poses.new joints.new }
 {
-    let checked = shop_check(balances.len(), shop);
-    if let Checked::Refused(r) = checked {
-        return Division::Refused(r);
-    }
+    shop_check(balances.len(), shop)?;
     let said = divide::subdivide_path(k, tol, given, solved, poses, joints);
     settle(said, balances, shop as usize, poses, joints)
 }

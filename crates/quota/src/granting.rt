@@ -3,7 +3,8 @@ ghost use Rattle.std.specs.Prelude.{◌+◌, ◌≡◌, leb};
 ghost use Rattle.quota.specs.Quota as S;
 ghost use Rattle.quota.specs.Calls.{Grant, after};
 
-use chain::{Checked, demand, then};
+use chain::demand;
+use refusal::{Cause, Refusal};
 
 // Shops are numbered from 0.
 const SHOPS: u64 = 32;
@@ -11,39 +12,30 @@ const SHOPS: u64 = 32;
 const MOST: u64 = 1_000_000_000;
 
 // The shop is known, and there is a balance for each.
-pub fn shop_check(balances: usize, shop: u64) -> Checked
+#[tactic(auto, unfolding(crate::specs::Quota::shop_check))]
+pub fn shop_check(balances: usize, shop: u64) -> Result<(), Refusal>
     ensures { result ≡ S.shop_check balances shop }
 {
-    let known = demand(shop < SHOPS, refusal::UNKNOWN_SHOP, 0);
-    let counted = demand(balances as u64 == SHOPS, refusal::LENGTHS_DIFFER, 0);
-    then(known, counted)
+    demand(shop < SHOPS, Cause::UnknownShop, 0)?;
+    demand(balances as u64 == SHOPS, Cause::LengthsDiffer, 0)
 }
 
 // Whether the balance stays within the limit. No sum is taken that could be too large for its type.
 fn room(balance: u64, amount: u64) -> bool
     ensures { result ≡ leb (balance + amount) S.most_balance }
 {
-    if amount <= MOST {
-        return balance <= MOST - amount;
-    }
-    false
+    amount <= MOST && balance <= MOST - amount
 }
 
 // The amount added to the balance of the shop.
-pub fn grant(balances: &mut [u64], shop: u64, amount: u64) -> Checked
+pub fn grant(balances: &mut [u64], shop: u64, amount: u64) -> Result<(), Refusal>
     ensures answer { result ≡ S.grant_check balances.old shop amount }
     ensures balances { balances.new ≡ after balances.old (Grant shop amount) }
 {
-    let checked = shop_check(balances.len(), shop);
-    if let Checked::Refused(_r) = checked {
-        return checked;
-    }
+    shop_check(balances.len(), shop)?;
     let i = shop as usize;
     let balance = balances[i];
-    let within = demand(room(balance, amount), refusal::TOO_LARGE, 0);
-    if let Checked::Refused(_r) = within {
-        return within;
-    }
+    demand(room(balance, amount), Cause::TooLarge, 0)?;
     balances[i] = balance + amount;
-    within
+    Ok(())
 }

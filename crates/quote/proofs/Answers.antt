@@ -7,11 +7,11 @@ use borrow.Author.Tests.{not-true, not-false}
 use mathlib.Core.List.{List, [], ◌∷◌}
 use lib.ListN.{length}
 use lib.Ieee.{Float}
+use Rattle.std.specs.Prelude.{Err, Ok}
 use Rattle.halving.specs.Halving.{Answer, Done, TooMany, NoSpace}
 use Rattle.halving.proofs.Step.{halve_empty}
 use Rattle.quoting.proofs.Quotes.{none_costs}
 use Rattle.refusal.specs.declared.Refusal.{Refusal}
-use Rattle.chain.specs.declared.Checked.TheVariants as Checked
 use Rattle.chain.specs.declared.Kinematics.{Kinematics}
 use Rattle.chain.specs.declared.Prepared.{Prepared}
 use Rattle.chain.specs.Prepared.{prepared}
@@ -22,20 +22,20 @@ use Rattle.turn.specs.Turning.{most}
 use Rattle.turn.proofs.Stored.{items_length}
 use Rattle.machine.specs.Dividing.{division}
 use Rattle.divide.specs.Subdividing.{given}
-use Rattle.quote.specs.declared.Quote.{Quote}
-use Rattle.quote.specs.Quotation.{cost_of, evaluations_of, figures, quote_in, quotation, scratch_enough, quote_check, quote_checked, quote_path, cleared, scratch_left}
+use Rattle.quote.specs.declared.QuoteError.{QuoteError}
+use Rattle.quote.specs.Quotation.{Quote, cost_of, evaluations_of, figures, quote_in, quotation, scratch_enough, quote_check, quote_checked, quote_path, cleared, scratch_left}
 use Rattle.quote.specs.AsDivided.{AsDivided}
 use Rattle.quote.proofs.Tied.{as_divided}
 
 -- ---- no pose
-none_quoted : (p : Prepared) (tol : Tolerances) (g : List Item) → length g ≡ 0 → Quote.Served (figures 0 0 0) ≡ quotation p tol g
+none_quoted : (p : Prepared) (tol : Tolerances) (g : List Item) → length g ≡ 0 → Ok (figures 0 0 0) ≡ quotation p tol g
 unfolding quotation evaluations_of division
 none_quoted p tol [] e =
     sym (ap (λ (n : ℕ). quote_in n (division p tol (0 + most) [])) (none_costs (divides p tol) (midpoint p) (cost_of tol) most)
     ∙ ap (quote_in 0) (halve_empty (divides p tol) (midpoint p) (0 + most) most 0 [] refl))
 none_quoted p tol (x ∷ g) e = absurd (omega arith)
 
-pub no_pose : (k : Kinematics) (tol : Tolerances) (poses joints : List Float) → length poses / 6 ≡ 0 → Quote.Served (figures 0 0 0) ≡ quotation (prepared k) tol (given poses joints)
+pub no_pose : (k : Kinematics) (tol : Tolerances) (poses joints : List Float) → length poses / 6 ≡ 0 → Ok (figures 0 0 0) ≡ quotation (prepared k) tol (given poses joints)
 no_pose k tol poses joints e = none_quoted (prepared k) tol (given poses joints) (items_length (length poses / 6) poses joints ∙ e)
 
 -- ---- behind the checks every answer clears the scratch
@@ -45,7 +45,7 @@ in_clears e (Done n r) l = refl
 in_clears e (TooMany n) l = refl
 in_clears e (NoSpace n) l = refl
 
-by_scratch : (b : Bool) (p : Prepared) (tol : Tolerances) (g : List Item) (l : List Float) → scratch_left (cond b (quotation p tol g) Quote.NoSpace) l ≡ cleared l
+by_scratch : (b : Bool) (p : Prepared) (tol : Tolerances) (g : List Item) (l : List Float) → scratch_left (cond b (quotation p tol g) (Err QuoteError.NoSpace)) l ≡ cleared l
 unfolding scratch_left quotation
 by_scratch true p tol g l = in_clears (evaluations_of p tol g) (division p tol (length g + most) g) l
 by_scratch false p tol g l = refl
@@ -55,7 +55,7 @@ pub enough_is : (roomJoints roomTips : ℕ) → not (scratch_enough roomJoints r
 enough_is roomJoints roomTips e = not-false (scratch_enough roomJoints roomTips) e
 
 module _ (k : Kinematics) (tol : Tolerances) (poses joints : List Float) (roomJoints roomTips : ℕ) where
-  pub short_so : not (scratch_enough roomJoints roomTips) ≡ true → Quote.NoSpace ≡ quote_checked k tol poses joints roomJoints roomTips
+  pub short_so : not (scratch_enough roomJoints roomTips) ≡ true → Err QuoteError.NoSpace ≡ quote_checked k tol poses joints roomJoints roomTips
   unfolding quote_checked
   short_so e = let h = not-true (scratch_enough roomJoints roomTips) e in rw h
 
@@ -71,28 +71,28 @@ module _ (k : Kinematics) (tol : Tolerances) (poses joints j₀ t₀ : List Floa
   So r scratchJoints scratchTips =
       (r ≡ answer) × ((scratchJoints ≡ scratch_left answer j₀) × ((scratchTips ≡ scratch_left answer t₀) × AsDivided k tol poses joints (length j₀) (length t₀) r))
 
-  refused_said : {r : Refusal} → quote_check k tol poses joints (length j₀) (length t₀) ≡ Checked.Refused r → Quote.Refused r ≡ answer
+  refused_said : {r : Refusal} → quote_check k tol poses joints (length j₀) (length t₀) ≡ Err r → Err (QuoteError.Refused r) ≡ answer
   unfolding quote_path
   refused_said e = rw e
 
-  refused_keeps : {r : Refusal} → quote_check k tol poses joints (length j₀) (length t₀) ≡ Checked.Refused r → (l : List Float) → l ≡ scratch_left answer l
+  refused_keeps : {r : Refusal} → quote_check k tol poses joints (length j₀) (length t₀) ≡ Err r → (l : List Float) → l ≡ scratch_left answer l
   unfolding quote_path scratch_left
   refused_keeps e l = rw e
 
-  pub refused_so : {r : Refusal} → quote_check k tol poses joints (length j₀) (length t₀) ≡ Checked.Refused r → So (Quote.Refused r) j₀ t₀
-  refused_so e =
-      let said = refused_said e in
+  pub refused_so : {r : Refusal} {said : Quote} → quote_check k tol poses joints (length j₀) (length t₀) ≡ Err r → said ≡ Err (QuoteError.Refused r) → So said j₀ t₀
+  refused_so e f =
+      let said = f ∙ refused_said e in
       (said, (refused_keeps e j₀, (refused_keeps e t₀, as_divided k tol poses joints (length j₀) (length t₀) said)))
 
-  checked_said : {r : Quote} → quote_check k tol poses joints (length j₀) (length t₀) ≡ Checked.Passed → r ≡ quote_checked k tol poses joints (length j₀) (length t₀) → r ≡ answer
+  checked_said : {r : Quote} → quote_check k tol poses joints (length j₀) (length t₀) ≡ Ok tt → r ≡ quote_checked k tol poses joints (length j₀) (length t₀) → r ≡ answer
   unfolding quote_path
   checked_said e f = rw e f
 
-  checked_clears : quote_check k tol poses joints (length j₀) (length t₀) ≡ Checked.Passed → (l : List Float) → scratch_left answer l ≡ cleared l
+  checked_clears : quote_check k tol poses joints (length j₀) (length t₀) ≡ Ok tt → (l : List Float) → scratch_left answer l ≡ cleared l
   unfolding quote_path quote_checked
   checked_clears e l = rw e (by_scratch (scratch_enough (length j₀) (length t₀)) (prepared k) tol (given poses joints) l)
 
-  pub checked_so : {r : Quote} {scratchJoints scratchTips : List Float} → quote_check k tol poses joints (length j₀) (length t₀) ≡ Checked.Passed
+  pub checked_so : {r : Quote} {scratchJoints scratchTips : List Float} → quote_check k tol poses joints (length j₀) (length t₀) ≡ Ok tt
       → r ≡ quote_checked k tol poses joints (length j₀) (length t₀) → scratchJoints ≡ cleared j₀ → scratchTips ≡ cleared t₀ → So r scratchJoints scratchTips
   checked_so e f u v =
       let said = checked_said e f in

@@ -1,19 +1,17 @@
 -- What the checks of a quotation leave to the machine, and what it leaves of a scratch.
 use Prim.Native.Nat.{ℕ, ◌*◌, ◌/◌, ◌≤◌}
 use native.Mathlib.Omega.{arith}
-use mathlib.Core.Path.{◌≡◌, ap, ◌∙◌}
+use mathlib.Core.Path.{◌≡◌, ap}
 use mathlib.Core.Bool.{true, ◌&&◌}
 use mathlib.Core.List.{List}
 use borrow.Author.Tests.{leb-true}
 use lib.Dec.{leb}
-use lib.ListN.{length, take, replicate}
+use lib.ListN.{length, replicate}
 use lib.Ieee.{Float}
+use Rattle.std.specs.Prelude.{Ok}
 use Rattle.float.specs.Helpers.{nought}
-use Rattle.lists.specs.Padding.{padded}
 use Rattle.lists.specs.Search.{all}
-use Rattle.lists.proofs.Padding.{padded_nil}
-use Rattle.refusal.specs.Numbers.{lengths_differ}
-use Rattle.chain.specs.declared.Checked.TheVariants.{Passed}
+use Rattle.refusal.specs.declared.Cause.{Cause}
 use Rattle.chain.specs.declared.Kinematics.{Kinematics}
 use Rattle.chain.specs.Check.{demand, chain_within, joints_within}
 use Rattle.chain.proofs.Passing.{then_passed}
@@ -32,7 +30,7 @@ module _ (k : Kinematics) (tol : Tolerances) (poses joints : List Float) where
       (both (chain_within k && all tip_within (poses_in poses) && all joints_within (joint_sets_in joints)) (leb (length poses / 6) 100000) e).1
 
   -- division's checks pass with whole records of one length where they pass with those of another
-  pub passed_there : (a b a₀ b₀ : ℕ) → whole_records a b ≡ true → division_check k tol poses joints a₀ b₀ ≡ Passed → division_check k tol poses joints a b ≡ Passed
+  pub passed_there : (a b a₀ b₀ : ℕ) → whole_records a b ≡ true → division_check k tol poses joints a₀ b₀ ≡ Ok tt → division_check k tol poses joints a b ≡ Ok tt
   unfolding four_whole
   passed_there a b a₀ b₀ w e =
       let p = all_pass k tol poses joints a₀ b₀ e in
@@ -48,15 +46,15 @@ module _ (k : Kinematics) (tol : Tolerances) (poses joints : List Float) where
       })
 
   module _ (roomJoints roomTips : ℕ) where
-    pub division_passed : quote_check k tol poses joints roomJoints roomTips ≡ Passed → division_check k tol poses joints 0 0 ≡ Passed
+    pub division_passed : quote_check k tol poses joints roomJoints roomTips ≡ Ok tt → division_check k tol poses joints 0 0 ≡ Ok tt
     unfolding quote_check
-    division_passed e = (then_passed (demand (scratch_whole roomJoints roomTips) lengths_differ 0) (division_check k tol poses joints 0 0) e).1
+    division_passed e = (then_passed (demand (scratch_whole roomJoints roomTips) Cause.LengthsDiffer 0) (division_check k tol poses joints 0 0) e).1
 
-    pub both_passed : scratch_whole roomJoints roomTips ≡ true → division_check k tol poses joints 0 0 ≡ Passed → quote_check k tol poses joints roomJoints roomTips ≡ Passed
+    pub both_passed : scratch_whole roomJoints roomTips ≡ true → division_check k tol poses joints 0 0 ≡ Ok tt → quote_check k tol poses joints roomJoints roomTips ≡ Ok tt
     unfolding quote_check
     both_passed e f = rw (e, f)
 
-    pub quote_passed : quote_check k tol poses joints roomJoints roomTips ≡ Passed
+    pub quote_passed : quote_check k tol poses joints roomJoints roomTips ≡ Ok tt
         → (length poses / 6 ≤ 100000) × ((length poses ≡ length poses / 6 * 6) × (length joints ≡ length poses / 6 * 5))
     quote_passed e =
         let d = division_passed e in
@@ -70,6 +68,6 @@ unfolding scratch_enough
 enough_joints roomJoints roomTips e =
     fifth roomJoints (leb-true 10000 (roomJoints / 5) (both (leb 10000 (roomJoints / 5)) (leb 10000 (roomTips / 3)) e).0)
 
-pub cleared_so : (a b : List Float) → length b ≡ length a → padded (length b) nought (take 0 b) ≡ cleared a
+pub cleared_so : (a b : List Float) → length b ≡ length a → replicate (length b) nought ≡ cleared a
 unfolding cleared
-cleared_so a b e = padded_nil (length b) nought ∙ ap (λ (k : ℕ). replicate k nought) e
+cleared_so a b e = ap (λ (k : ℕ). replicate k nought) e

@@ -4,29 +4,28 @@ use Prim.Native.Nat.{ℕ, ◌+◌, ◌-◌, ◌*◌, ◌≤◌, ◌<◌}
 use native.Mathlib.Omega.{arith}
 use mathlib.Core.Path.{◌≡◌, refl, sym, ap, ◌∙◌, subst}
 use mathlib.Core.Bool.{Bool, true, false, cond}
-use mathlib.Core.Option.{Option, none, some}
 use mathlib.Core.List.{List, [], ◌∷◌, ◌++◌}
 use borrow.Author.Tests.{eqb-true, eqb-false, ltb-true, ltb-false, lt-ltb}
 use lib.Dec.{eqb}
 use lib.ListN.{length, length-append}
 use lib.Ieee.{Float}
+use Rattle.std.specs.Prelude.{Err, None, Ok, Option, Some}
 use Rattle.quoting.proofs.Quotes.{Quoting, quoting_start, quoting_keep, quoting_insert, quoting_many, quoting_end}
 use Rattle.chain.specs.declared.Prepared.{Prepared}
 use Rattle.path.specs.Solving.{joints_over}
 use Rattle.middle.specs.declared.Item.{Item}
 use Rattle.middle.specs.declared.Tolerances.{Tolerances}
-use Rattle.middle.specs.declared.Verdict.TheVariants.{Keep, Divide}
 use Rattle.middle.specs.Testing.{midpoint, divides}
 use Rattle.turn.specs.Items.{item_at, items_in, joints_in}
 use Rattle.turn.specs.Turning.{most}
 use Rattle.turn.proofs.Stored.{items_length}
 use Rattle.machine.specs.Dividing.{division}
+use Rattle.quote.specs.declared.Figures.{Figures}
 use Rattle.quote.specs.declared.Place.{Place}
-use Rattle.quote.specs.declared.Quote.{Quote}
+use Rattle.quote.specs.declared.QuoteError.{QuoteError}
 use Rattle.quote.specs.declared.Quoter.{Quoter}
-use Rattle.quote.specs.declared.Stepped.{Stepped}
-use Rattle.quote.specs.Quotation.{cost_of, evaluations_of, figures, quote_in, quotation}
-use Rattle.quote.specs.QuotationSteps.{arrived, next_given, first_waiting, verdict_of, past, with_midpoint, if_inserted, place_with, place_by, stack_by, place_after, stack_after, goes_on, keeping, stepped, begun, served_at, answer_in, Few, Lent, Runs}
+use Rattle.quote.specs.Quotation.{Quote, cost_of, evaluations_of, figures, quote_in, quotation}
+use Rattle.quote.specs.QuotationSteps.{arrived, next_given, first_waiting, verdict_of, past, with_midpoint, if_inserted, place_with, place_by, stack_by, place_after, stack_after, goes_on, keeping, stepped, begun, served_at, answer_in, Few, Runs}
 use Rattle.quote.proofs.Waiting.{waits, take_given, take_stacked, put_waiting, over_long, waits_first, waits_none}
 use Rattle.quote.proofs.Kept.{arrived_mid, right_kept}
 use Rattle.quote.proofs.Costs.{cost_of_low}
@@ -38,10 +37,17 @@ to_do count s = (10000 - s.inserted) * 2 + (10000 - s.top) + (count - s.next)
 less_divided : (i t d : ℕ) → i < 10000 → 0 < t → t ≤ 10000 → (10000 - (i + 1)) * 2 + (10000 - (t - 1)) + d < (10000 - i) * 2 + (10000 - t) + d
 less_divided i t d a b c = omega arith
 
-on_one : {a b : Quoter} → Stepped.On a ≡ Stepped.On b → b ≡ a
+-- the answers as functions of what they hold
+abbrev many : ℕ → Quote
+many n = Err (QuoteError.TooMany n)
+
+abbrev served : Figures → Quote
+served f = Ok f
+
+on_one : {a b : Quoter} → ◌≡◌ {A = Option Quoter} (Some a) (Some b) → b ≡ a
 on_one e = cc
 
-many_on : {B : Type 0} {a : Quoter} → Stepped.TooMany ≡ Stepped.On a → B
+many_on : {B : Type 0} {a : Quoter} → ◌≡◌ {A = Option Quoter} None (Some a) → B
 many_on e = let z : ◌≡◌ {A = ℕ} 0 1 = cc in absurd (omega arith)
 
 module _ (p : Prepared) (tol : Tolerances) (count : ℕ) (lent solved : List Float) where
@@ -104,8 +110,8 @@ module _ (p : Prepared) (tol : Tolerances) (count : ℕ) (lent solved : List Flo
     r = first_waiting p count s.top s.next lent solved stack
 
     abbrev After : Option Place → List Float → Type 0
-    After (some next) stack' = Going long stack' next × (to_do count next < to_do count s)
-    After none stack' = quotation p tol all ≡ Quote.TooMany 10000
+    After (Some next) stack' = Going long stack' next × (to_do count next < to_do count s)
+    After None stack' = quotation p tol all ≡ Err (QuoteError.TooMany 10000)
 
     abbrev c : ℕ
     c = cost_of tol s.left r
@@ -139,7 +145,7 @@ module _ (p : Prepared) (tol : Tolerances) (count : ℕ) (lent solved : List Flo
         ∙ ap (λ (b : Bool). cond b i (arrived p (joints_in stack (s.top * 5))) ∷ waits p count (s.top + 1) s.next lent solved stack) (sym e)
 
     staying : divides p tol s.left r ≡ false → (b : Bool) → eqb s.top most ≡ b
-        → After (some (cond b
+        → After (Some (cond b
         (record { left = r; top = s.top; next = s.next + 1; inserted = s.inserted; evaluations = s.evaluations + c })
         (record { left = r; top = s.top + 1; next = s.next; inserted = s.inserted; evaluations = s.evaluations + c }))) stack
     unfolding to_do
@@ -186,13 +192,13 @@ module _ (p : Prepared) (tol : Tolerances) (count : ℕ) (lent solved : List Flo
     mid = midpoint p s.left r
 
     dividing : divides p tol s.left r ≡ true → (b : Bool) → eqb s.inserted most ≡ b → (a : Bool) → eqb s.top most ≡ a
-        → After (cond b none (some (record { left = s.left; top = s.top - 1; next = s.next; inserted = s.inserted + 1; evaluations = s.evaluations + c + 1 })))
+        → After (cond b None (Some (record { left = s.left; top = s.top - 1; next = s.next; inserted = s.inserted + 1; evaluations = s.evaluations + c + 1 })))
         (cond b stack (joints_over mid.joints stack ((s.top - 1) * 5)))
     unfolding to_do quotation division
     dividing e true f a q =
         let h = eqb-true s.inserted most f in
         ap (quote_in (evaluations_of p tol all)) (quoting_many (divides p tol) (midpoint p) (cost_of tol) (length all + most) most all (law_with (right_first a q)) e (omega arith))
-        ∙ ap Quote.TooMany h
+        ∙ ap many h
     dividing e false f a q =
         let h = eqb-false s.inserted most f in
         let a1 = g.top_low in let a2 = g.next_low in let a3 = g.few in let a4 = g.stack_few in let a5 = g.placed in let a6 = g.spent in let a7 = g.stack_long in
@@ -217,7 +223,7 @@ module _ (p : Prepared) (tol : Tolerances) (count : ℕ) (lent solved : List Flo
         )
 
     by_verdict : (b : Bool) → divides p tol s.left r ≡ b
-        → After (place_by tol s r (cond b (Divide (midpoint p s.left r)) Keep)) (stack_by s stack (cond b (Divide (midpoint p s.left r)) Keep))
+        → After (place_by tol s r (cond b (Some (midpoint p s.left r)) None)) (stack_by s stack (cond b (Some (midpoint p s.left r)) None))
     unfolding past place_with if_inserted with_midpoint
     by_verdict true e = dividing e (eqb s.inserted most) refl (eqb s.top most) refl
     by_verdict false e = staying e (eqb s.top most) refl
@@ -227,15 +233,15 @@ module _ (p : Prepared) (tol : Tolerances) (count : ℕ) (lent solved : List Flo
     after = by_verdict (divides p tol s.left r) refl
 
   -- ---- of the machine: one test from m leads to `step` and leaves the stack as stack'
-  module _ {long : ℕ} {stack : List Float} {m : Quoter} (n : Running long stack m) (more : goes_on count m.place ≡ true) {step : Stepped} {stack' : List Float}
+  module _ {long : ℕ} {stack : List Float} {m : Quoter} (n : Running long stack m) (more : goes_on count m.place ≡ true) {step : Option Quoter} {stack' : List Float}
       (is-step : step ≡ stepped p count lent solved stack' (place_after p tol m.place m.right)) (is-stack : stack' ≡ stack_after p tol m.place m.right stack) where
     waits_still : m.place.top + m.place.next < 10000 + count
     unfolding goes_on
     waits_still = ltb-true (m.place.top + m.place.next) (most + count) more
 
     abbrev After' : Option Place → List Float → Type 0
-    After' (some next) stack' = Going long stack' next × (to_do count next < to_do count m.place)
-    After' none stack' = quotation p tol all ≡ Quote.TooMany 10000
+    After' (Some next) stack' = Going long stack' next × (to_do count next < to_do count m.place)
+    After' None stack' = quotation p tol all ≡ Err (QuoteError.TooMany 10000)
 
     after_here : After' (place_after p tol m.place m.right) stack'
     after_here =
@@ -243,22 +249,22 @@ module _ (p : Prepared) (tol : Tolerances) (count : ℕ) (lent solved : List Flo
         subst (After' (place_after p tol m.place m.right)) (sym is-stack)
         (subst (λ (t : Item). After' (place_after p tol m.place t) (stack_after p tol m.place t stack)) q (after n.going waits_still))
 
-    by_place : (o : Option Place) → After' o stack' → step ≡ stepped p count lent solved stack' o → (next : Quoter) → step ≡ Stepped.On next
+    by_place : (o : Option Place) → After' o stack' → step ≡ stepped p count lent solved stack' o → (next : Quoter) → step ≡ Some next
         → Running long stack' next × (to_do count next.place < to_do count m.place)
-    by_place none a e next f = many_on (sym e ∙ f)
-    by_place (some s) a e next f =
+    by_place None a e next f = many_on (sym e ∙ f)
+    by_place (Some s) a e next f =
         let k : next ≡ keeping p count s lent solved stack' = on_one (sym e ∙ f) in
         (running s stack' k a.0, subst (λ (z : Place). to_do count z < to_do count m.place) (place_of s stack' k) a.1)
 
-    pub going_on : {next : Quoter} → step ≡ Stepped.On next → Running long stack' next × (to_do count next.place < to_do count m.place)
+    pub going_on : {next : Quoter} → step ≡ Some next → Running long stack' next × (to_do count next.place < to_do count m.place)
     going_on {next} f = by_place (place_after p tol m.place m.right) after_here is-step next f
 
-    no_place : (o : Option Place) → After' o stack' → step ≡ stepped p count lent solved stack' o → step ≡ Stepped.TooMany → quotation p tol all ≡ Quote.TooMany 10000
-    no_place none a e f = a
-    no_place (some s) a e f = many_on (sym f ∙ e)
+    no_place : (o : Option Place) → After' o stack' → step ≡ stepped p count lent solved stack' o → step ≡ None → quotation p tol all ≡ Err (QuoteError.TooMany 10000)
+    no_place None a e f = a
+    no_place (Some s) a e f = many_on (sym f ∙ e)
 
-    pub ran_many : step ≡ Stepped.TooMany → (quotation p tol all ≡ answer_in count step) × Few step
-    ran_many f = rw f (no_place (place_after p tol m.place m.right) after_here is-step f, tt)
+    pub ran_many : step ≡ None → {said : Option Quoter} → said ≡ None → (quotation p tol all ≡ answer_in count said) × Few said
+    ran_many f e = rw e (no_place (place_after p tol m.place m.right) after_here is-step f, tt)
 
   pub going_runs : {long : ℕ} {stack : List Float} {m : Quoter} → Running long stack m → count ≤ 100000 → Runs count m.place
   going_runs n w =
@@ -266,11 +272,11 @@ module _ (p : Prepared) (tol : Tolerances) (count : ℕ) (lent solved : List Flo
       let a1 = g.top_low in let a2 = g.next_low in let a3 = g.few in let a4 = g.stack_few in let a5 = g.placed in let a6 = g.spent in
       ((a1, a2), ((a4, a3), omega arith))
 
-  pub advance_needs : {long : ℕ} {stack : List Float} {m : Quoter} → Running long stack m → Lent count (length lent) (length solved) long → goes_on count m.place ≡ true
-      → (Lent count (length lent) (length solved) (length stack) × (Runs count m.place × (m.place.top + m.place.next < 10000 + count))) × (m ≡ keeping p count m.place lent solved stack)
+  pub advance_needs : {long : ℕ} {stack : List Float} {m : Quoter} → Running long stack m → count ≤ 100000 → goes_on count m.place ≡ true
+      → ((50000 ≤ length stack) × (Runs count m.place × (m.place.top + m.place.next < 10000 + count))) × (m ≡ keeping p count m.place lent solved stack)
   unfolding goes_on
   advance_needs {long} {stack} {m} n l e =
-      (((l.0, (l.1.0, n.going.stack_long)), (going_runs n l.0.1, ltb-true (m.place.top + m.place.next) (most + count) e)), n.keeps)
+      ((n.going.stack_long, (going_runs n l, ltb-true (m.place.top + m.place.next) (most + count) e)), n.keeps)
 
   pub going_end : {long : ℕ} {stack : List Float} {m : Quoter} → Running long stack m → goes_on count m.place ≡ false
       → (quotation p tol all ≡ served_at count m.place) × (m.place.inserted ≤ most)
@@ -284,7 +290,7 @@ module _ (p : Prepared) (tol : Tolerances) (count : ℕ) (lent solved : List Flo
       subst (λ (w : List Item). Law g.front s.left w s.inserted s.evaluations) (waits_none p count s.top s.next lent solved stack (omega arith) a1 (omega arith)) g.law in
       let d = quoting_end (divides p tol) (midpoint p) (cost_of tol) (length all + most) most all q in (
         ap (quote_in (evaluations_of p tol all)) d.0
-            ∙ ap (λ (k : ℕ). Quote.Served (figures s.inserted k (evaluations_of p tol all))) (q.long ∙ ap (λ (k : ℕ). k + s.inserted) (items_length count lent solved))
-            ∙ ap (λ (k : ℕ). Quote.Served (figures s.inserted (count + s.inserted) k)) d.1,
+            ∙ ap (λ (k : ℕ). served (figures s.inserted k (evaluations_of p tol all))) (q.long ∙ ap (λ (k : ℕ). k + s.inserted) (items_length count lent solved))
+            ∙ ap (λ (k : ℕ). served (figures s.inserted (count + s.inserted) k)) d.1,
         g.few,
       )

@@ -19,7 +19,7 @@ use Rattle.turn.specs.Items.{item_at, joints_in}
 use Rattle.turn.specs.Turning.{most, axis_at, reached}
 use Rattle.quote.specs.declared.Place.{Place}
 use Rattle.quote.specs.declared.Quoter.{Quoter}
-use Rattle.quote.specs.QuotationSteps.{arrived, next_given, first_waiting, past, with_midpoint, keeping, waiting_axis, end_after, with_middle, Lent, Runs}
+use Rattle.quote.specs.QuotationSteps.{arrived, next_given, first_waiting, past, with_midpoint, keeping, waiting_axis, end_after, with_middle, Runs}
 use Rattle.quote.proofs.Waiting.{first_put}
 
 pub arrived_mid : (p : Prepared) (x y : Item) → arrived p (midpoint p x y).joints ≡ midpoint p x y
@@ -120,11 +120,11 @@ module _ (p : Prepared) (count : ℕ) (lent solved stack : List Float) where
 
   -- what `evaluated` asks then
   pub move_on_needs : (m : Quoter) (tested : ℕ) → m ≡ keeping p count m.place lent solved stack → {s : Place} {endAxis : Vec3} → s ≡ past m.place m.right tested
-      → endAxis ≡ end_after p count m.place.top s.next m.end_axis solved → Lent count (length lent) (length solved) (length stack) → Runs count m.place
-      → (Lent count (length lent) (length solved) (length stack) × (s.top ≤ 10000)) × ((m.right_axis ≡ reached p s.left) × (endAxis ≡ axis_at p solved (next_given count s.next)))
-  move_on_needs m tested e {s} {endAxis} f g lent-so runs =
+      → endAxis ≡ end_after p count m.place.top s.next m.end_axis solved → 50000 ≤ length stack → Runs count m.place
+      → ((50000 ≤ length stack) × (s.top ≤ 10000)) × ((m.right_axis ≡ reached p s.left) × (endAxis ≡ axis_at p solved (next_given count s.next)))
+  move_on_needs m tested e {s} {endAxis} f g long runs =
       rw f (
-        (lent-so, past_top m.place m.right tested runs.0.0),
+        (long, past_top m.place m.right tested runs.0.0),
         (
           right_axis_kept m e ∙ ap (reached p) (sym (past_left m.place m.right tested)),
           rw f at g ∙ end_past m.place m.right tested m.end_axis (end_kept m e),

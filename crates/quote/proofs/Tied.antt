@@ -9,11 +9,12 @@ use borrow.Author.Tests.{leb-true}
 use lib.Dec.{leb}
 use lib.ListN.{length}
 use lib.Ieee.{Float}
+use Rattle.std.specs.Prelude.{Err, Ok}
 use Rattle.halving.specs.Halving.{Answer, Done, TooMany, NoSpace}
 use Rattle.halving.proofs.Ends.{Result, result}
 use Rattle.quoting.proofs.Spaces.{done_there, many_there}
 use Rattle.refusal.specs.declared.Refusal.{Refusal}
-use Rattle.chain.specs.declared.Checked.{Checked}
+use Rattle.chain.specs.Checked.{Checked}
 use Rattle.chain.specs.declared.Kinematics.{Kinematics}
 use Rattle.chain.specs.declared.Prepared.{Prepared}
 use Rattle.chain.specs.Prepared.{prepared}
@@ -28,31 +29,31 @@ use Rattle.divide.specs.Checking.{division_check}
 use Rattle.divide.specs.Subdividing.{Kept, Halved, given, division_within, unless_kept, subdivide_path}
 use Rattle.divide.proofs.Idle.{busy_within}
 use Rattle.quote.specs.declared.Figures.{Figures}
-use Rattle.quote.specs.declared.Quote.{Quote}
-use Rattle.quote.specs.Quotation.{evaluations_of, figures, quote_in, quotation, scratch_whole, scratch_enough, quote_check, unless_refused, quote_checked, quote_path}
+use Rattle.quote.specs.declared.QuoteError.{QuoteError}
+use Rattle.quote.specs.Quotation.{Quote, evaluations_of, figures, quote_in, quotation, scratch_whole, scratch_enough, quote_check, unless_refused, quote_checked, quote_path}
 use Rattle.quote.specs.AsDivided.{AsDivided}
 use Rattle.quote.proofs.Checks.{passed_there, division_passed, both_passed}
 
 -- ---- answers that differ, and what one holds
-none_served : {B : Type 0} {f : Figures} → Quote.NoSpace ≡ Quote.Served f → B
+none_served : {B : Type 0} {f : Figures} → ◌≡◌ {A = Quote} (Err QuoteError.NoSpace) (Ok f) → B
 none_served e = let z : ◌≡◌ {A = ℕ} 0 1 = cc in absurd (omega arith)
 
-none_many : {B : Type 0} {n : ℕ} → Quote.NoSpace ≡ Quote.TooMany n → B
+none_many : {B : Type 0} {n : ℕ} → ◌≡◌ {A = Quote} (Err QuoteError.NoSpace) (Err (QuoteError.TooMany n)) → B
 none_many e = let z : ◌≡◌ {A = ℕ} 0 1 = cc in absurd (omega arith)
 
-refused_served : {B : Type 0} {r : Refusal} {f : Figures} → Quote.Refused r ≡ Quote.Served f → B
+refused_served : {B : Type 0} {r : Refusal} {f : Figures} → ◌≡◌ {A = Quote} (Err (QuoteError.Refused r)) (Ok f) → B
 refused_served e = let z : ◌≡◌ {A = ℕ} 0 1 = cc in absurd (omega arith)
 
-refused_many : {B : Type 0} {r : Refusal} {n : ℕ} → Quote.Refused r ≡ Quote.TooMany n → B
+refused_many : {B : Type 0} {r : Refusal} {n : ℕ} → ◌≡◌ {A = Quote} (Err (QuoteError.Refused r)) (Err (QuoteError.TooMany n)) → B
 refused_many e = let z : ◌≡◌ {A = ℕ} 0 1 = cc in absurd (omega arith)
 
-many_served : {B : Type 0} {n : ℕ} {f : Figures} → Quote.TooMany n ≡ Quote.Served f → B
+many_served : {B : Type 0} {n : ℕ} {f : Figures} → ◌≡◌ {A = Quote} (Err (QuoteError.TooMany n)) (Ok f) → B
 many_served e = let z : ◌≡◌ {A = ℕ} 0 1 = cc in absurd (omega arith)
 
-served_one : {f h : Figures} → Quote.Served f ≡ Quote.Served h → f ≡ h
+served_one : {f h : Figures} → ◌≡◌ {A = Quote} (Ok f) (Ok h) → f ≡ h
 served_one e = cc
 
-many_one : {m n : ℕ} → Quote.TooMany m ≡ Quote.TooMany n → m ≡ n
+many_one : {m n : ℕ} → ◌≡◌ {A = Quote} (Err (QuoteError.TooMany m)) (Err (QuoteError.TooMany n)) → m ≡ n
 many_one e = cc
 
 kept_halved : {B : Type 0} {r : Refusal} {x : Answer Item} → Kept r ≡ Halved x → B
@@ -68,12 +69,12 @@ full_many : {B : Type 0} {k n : ℕ} → ◌≡◌ {A = Answer Item} (NoSpace k)
 full_many e = let z : ◌≡◌ {A = ℕ} 0 1 = cc in absurd (omega arith)
 
 -- ---- a quotation from a halving, and back
-undone : (e : ℕ) (a : Answer Item) (f : Figures) → quote_in e a ≡ Quote.Served f → (r : List Item) × ((a ≡ Done f.inserted r) × (length r ≡ f.poses))
+undone : (e : ℕ) (a : Answer Item) (f : Figures) → quote_in e a ≡ Ok f → (r : List Item) × ((a ≡ Done f.inserted r) × (length r ≡ f.poses))
 undone e (Done n l) f h = let s = served_one h in (l, (ap (λ (q : Figures). Done q.inserted l) s, ap (λ (q : Figures). q.poses) s))
 undone e (TooMany n) f h = many_served h
 undone e (NoSpace n) f h = none_served h
 
-unmany : (e : ℕ) (a : Answer Item) (n : ℕ) → quote_in e a ≡ Quote.TooMany n → a ≡ TooMany n
+unmany : (e : ℕ) (a : Answer Item) (n : ℕ) → quote_in e a ≡ Err (QuoteError.TooMany n) → a ≡ TooMany n
 unmany e (Done k l) n h = many_served (sym h)
 unmany e (TooMany k) n h = ap TooMany (many_one h)
 unmany e (NoSpace k) n h = none_many h
@@ -83,17 +84,17 @@ unfolding whole_records
 none_whole = refl
 
 -- ---- the calls, from their parts
-quote_parts : (c : Checked) (b : Bool) (q y : Quote) → (Quote.NoSpace ≡ y → ⊥) → ((r : Refusal) → Quote.Refused r ≡ y → ⊥) → unless_refused c (cond b q Quote.NoSpace) ≡ y
-    → (c ≡ Checked.Passed) × ((b ≡ true) × (q ≡ y))
-quote_parts Checked.Passed true q y u v e = (refl, (refl, e))
-quote_parts Checked.Passed false q y u v e = absurd (u e)
-quote_parts (Checked.Refused r) b q y u v e = absurd (v r e)
+quote_parts : (c : Checked) (b : Bool) (q y : Quote) → (Err QuoteError.NoSpace ≡ y → ⊥) → ((r : Refusal) → Err (QuoteError.Refused r) ≡ y → ⊥) → unless_refused c (cond b q (Err QuoteError.NoSpace)) ≡ y
+    → (c ≡ Ok tt) × ((b ≡ true) × (q ≡ y))
+quote_parts (Ok _) true q y u v e = (refl, (refl, e))
+quote_parts (Ok _) false q y u v e = absurd (u e)
+quote_parts (Err r) b q y u v e = absurd (v r e)
 
 division_parts : (c : Checked) (b : Bool) (x y : Answer Item) → (NoSpace 0 ≡ y → ⊥) → unless_kept c (Halved (cond b x (NoSpace 0))) ≡ Halved y
-    → (c ≡ Checked.Passed) × ((b ≡ true) × (x ≡ y))
-division_parts Checked.Passed true x y u e = (refl, (refl, halved_one e))
-division_parts Checked.Passed false x y u e = absurd (u (halved_one e))
-division_parts (Checked.Refused r) b x y u e = kept_halved e
+    → (c ≡ Ok tt) × ((b ≡ true) × (x ≡ y))
+division_parts (Ok _) true x y u e = (refl, (refl, halved_one e))
+division_parts (Ok _) false x y u e = absurd (u (halved_one e))
+division_parts (Err r) b x y u e = kept_halved e
 
 module _ (k : Kinematics) (tol : Tolerances) (poses joints : List Float) where
   abbrev p : Prepared
@@ -119,35 +120,35 @@ module _ (k : Kinematics) (tol : Tolerances) (poses joints : List Float) where
   quoted_division = refl
 
   -- a division with a space, from its checks and its halving, and back
-  divided_so : (a b : ℕ) (y : Answer Item) → division_check k tol poses joints a b ≡ Checked.Passed → length g ≤ space_in a b → division p tol (space_in a b) g ≡ y
+  divided_so : (a b : ℕ) (y : Answer Item) → division_check k tol poses joints a b ≡ Ok tt → length g ≤ space_in a b → division p tol (space_in a b) g ≡ y
       → subdivide_path k tol poses joints a b ≡ Halved y
   unfolding subdivide_path
   divided_so a b y c h e = rw c (ap Halved (busy_within p tol (space_in a b) g h ∙ e))
 
   divided_by : (a b : ℕ) (y : Answer Item) → (NoSpace 0 ≡ y → ⊥) → subdivide_path k tol poses joints a b ≡ Halved y
-      → (division_check k tol poses joints a b ≡ Checked.Passed) × ((length g ≤ space_in a b) × (division p tol (space_in a b) g ≡ y))
+      → (division_check k tol poses joints a b ≡ Ok tt) × ((length g ≤ space_in a b) × (division p tol (space_in a b) g ≡ y))
   unfolding subdivide_path division_within
   divided_by a b y u e =
       let d = division_parts (division_check k tol poses joints a b) (leb (length g) (space_in a b)) (division p tol (space_in a b) g) y u e in
       (d.0, (leb-true (length g) (space_in a b) d.1.0, d.1.1))
 
   module _ (roomJoints roomTips : ℕ) where
-    quote_by : (y : Quote) → (Quote.NoSpace ≡ y → ⊥) → ((r : Refusal) → Quote.Refused r ≡ y → ⊥) → quote_path k tol poses joints roomJoints roomTips ≡ y
-        → (division_check k tol poses joints 0 0 ≡ Checked.Passed) × (quotation p tol g ≡ y)
+    quote_by : (y : Quote) → (Err QuoteError.NoSpace ≡ y → ⊥) → ((r : Refusal) → Err (QuoteError.Refused r) ≡ y → ⊥) → quote_path k tol poses joints roomJoints roomTips ≡ y
+        → (division_check k tol poses joints 0 0 ≡ Ok tt) × (quotation p tol g ≡ y)
     unfolding quote_path quote_checked
     quote_by y u v e =
         let d = quote_parts (quote_check k tol poses joints roomJoints roomTips) (scratch_enough roomJoints roomTips) (quotation p tol g) y u v e in
         (division_passed k tol poses joints roomJoints roomTips d.0, d.1.1)
 
-    quote_so : (y : Quote) → scratch_whole roomJoints roomTips ≡ true → scratch_enough roomJoints roomTips ≡ true → division_check k tol poses joints 0 0 ≡ Checked.Passed
+    quote_so : (y : Quote) → scratch_whole roomJoints roomTips ≡ true → scratch_enough roomJoints roomTips ≡ true → division_check k tol poses joints 0 0 ≡ Ok tt
         → quotation p tol g ≡ y → quote_path k tol poses joints roomJoints roomTips ≡ y
     unfolding quote_path quote_checked
     quote_so y a b c e = rw (both_passed k tol poses joints roomJoints roomTips a c, b) e
 
-    quoted_so : (f : Figures) → quote_path k tol poses joints roomJoints roomTips ≡ Quote.Served f → (a b : ℕ) → whole_records a b ≡ true → f.poses ≤ space_in a b
+    quoted_so : (f : Figures) → quote_path k tol poses joints roomJoints roomTips ≡ Ok f → (a b : ℕ) → whole_records a b ≡ true → f.poses ≤ space_in a b
         → (r : List Item) × ((subdivide_path k tol poses joints a b ≡ Halved (Done f.inserted r)) × (length r ≡ f.poses))
     quoted_so f e a b w h =
-        let (c, q) = quote_by (Quote.Served f) none_served (λ r. refused_served) e in
+        let (c, q) = quote_by (Ok f) none_served (λ r. refused_served) e in
         let (r, d) = undone (evaluations_of p tol g) (division p tol (length g + most) g) f (sym quoted_division ∙ q) in
         let l = (done_result (length g + most) f.inserted r (omega arith) d.0).counted in
         let m = d.1 in (
@@ -160,29 +161,29 @@ module _ (k : Kinematics) (tol : Tolerances) (poses joints : List Float) where
         )
 
     divided_quoted : scratch_whole roomJoints roomTips ≡ true → scratch_enough roomJoints roomTips ≡ true → (a b n : ℕ) (r : List Item)
-        → subdivide_path k tol poses joints a b ≡ Halved (Done n r) → quote_path k tol poses joints roomJoints roomTips ≡ Quote.Served (figures n (length r) (evaluations_of p tol g))
+        → subdivide_path k tol poses joints a b ≡ Halved (Done n r) → quote_path k tol poses joints roomJoints roomTips ≡ Ok (figures n (length r) (evaluations_of p tol g))
     divided_quoted u v a b n r e =
         let d = divided_by a b (Done n r) full_done e in
         let t = done_result (space_in a b) n r d.1.0 d.1.1 in
         let l = t.counted in
         let s = t.few in
-        quote_so (Quote.Served (figures n (length r) (evaluations_of p tol g))) u v (passed_there k tol poses joints 0 0 a b none_whole d.0)
+        quote_so (Ok (figures n (length r) (evaluations_of p tol g))) u v (passed_there k tol poses joints 0 0 a b none_whole d.0)
         (quoted_division ∙ ap (quote_in (evaluations_of p tol g)) (done_anywhere (space_in a b) (length g + most) n r d.1.0 (omega arith) d.1.1))
 
     many_so : scratch_whole roomJoints roomTips ≡ true → scratch_enough roomJoints roomTips ≡ true → (a b n : ℕ) → whole_records a b ≡ true → length g + most ≤ space_in a b
-        → (quote_path k tol poses joints roomJoints roomTips ≡ Quote.TooMany n) ↔ (subdivide_path k tol poses joints a b ≡ Halved (TooMany n))
+        → (quote_path k tol poses joints roomJoints roomTips ≡ Err (QuoteError.TooMany n)) ↔ (subdivide_path k tol poses joints a b ≡ Halved (TooMany n))
     many_so u v a b n w h = (on, back)
       where
-        on : quote_path k tol poses joints roomJoints roomTips ≡ Quote.TooMany n → subdivide_path k tol poses joints a b ≡ Halved (TooMany n)
+        on : quote_path k tol poses joints roomJoints roomTips ≡ Err (QuoteError.TooMany n) → subdivide_path k tol poses joints a b ≡ Halved (TooMany n)
         on e =
-            let (c, q) = quote_by (Quote.TooMany n) none_many (λ r. refused_many) e in
+            let (c, q) = quote_by (Err (QuoteError.TooMany n)) none_many (λ r. refused_many) e in
             divided_so a b (TooMany n) (passed_there k tol poses joints a b 0 0 w c) (omega arith)
             (many_anywhere (length g + most) (space_in a b) n (omega arith) h (unmany (evaluations_of p tol g) (division p tol (length g + most) g) n (sym quoted_division ∙ q)))
 
-        back : subdivide_path k tol poses joints a b ≡ Halved (TooMany n) → quote_path k tol poses joints roomJoints roomTips ≡ Quote.TooMany n
+        back : subdivide_path k tol poses joints a b ≡ Halved (TooMany n) → quote_path k tol poses joints roomJoints roomTips ≡ Err (QuoteError.TooMany n)
         back e =
             let d = divided_by a b (TooMany n) full_many e in
-            quote_so (Quote.TooMany n) u v (passed_there k tol poses joints 0 0 a b none_whole d.0)
+            quote_so (Err (QuoteError.TooMany n)) u v (passed_there k tol poses joints 0 0 a b none_whole d.0)
             (quoted_division ∙ ap (quote_in (evaluations_of p tol g)) (many_anywhere (space_in a b) (length g + most) n h (omega arith) d.1.1))
 
     pub as_divided : {answer : Quote} → answer ≡ quote_path k tol poses joints roomJoints roomTips → AsDivided k tol poses joints roomJoints roomTips answer

@@ -1,8 +1,8 @@
 -- A quotation: the figures of a division with enough space, its checks, and what it leaves of the lent scratch.
-use Rattle.std.specs.Prelude.{ℕ, ◌+◌, ◌/◌, ◌%◌, Bool, cond, ◌&&◌, List, [], ◌∷◌, eqb, leb, length, replicate, Float}
+use Rattle.std.specs.Prelude.{ℕ, ◌+◌, ◌/◌, ◌%◌, Bool, cond, ◌&&◌, List, [], ◌∷◌, eqb, leb, length, replicate, Float, Err, Ok, Result}
 use Rattle.float.specs.Helpers.{nought}
-use Rattle.refusal.specs.Numbers.{lengths_differ}
-use Rattle.chain.specs.declared.Checked.{Checked}
+use Rattle.refusal.specs.declared.Cause.{Cause}
+use Rattle.chain.specs.Checked.{Checked}
 use Rattle.chain.specs.declared.Kinematics.{Kinematics}
 use Rattle.chain.specs.declared.Prepared.{Prepared}
 use Rattle.chain.specs.Check.{demand, first_refusal}
@@ -18,7 +18,7 @@ use Rattle.machine.specs.Dividing.{division}
 use Rattle.divide.specs.Checking.{division_check}
 use Rattle.divide.specs.Subdividing.{given}
 use Rattle.quote.specs.declared.Figures.{Figures}
-use Rattle.quote.specs.declared.Quote.{Quote}
+use Rattle.quote.specs.declared.QuoteError.{QuoteError}
 
 -- ---- the figures
 -- a test under these tolerances: the axes that the two joint sets reach, and their midpoint
@@ -36,11 +36,15 @@ evaluations_of p tol g = Costing.evaluations (divides p tol) (midpoint p) (cost_
 abbrev pub figures : (inserted poses evaluations : ℕ) → Figures
 figures inserted poses evaluations = record { inserted = inserted; poses = poses; evaluations = evaluations }
 
+-- what a quotation answers: its figures, or why it has none
+abbrev pub Quote : Type 0
+Quote = Result Figures QuoteError
+
 -- how many are inserted, and how many there are then; with space for all that may be inserted there is no `NoSpace`
 abbrev pub quote_in : ℕ → Answer Item → Quote
-quote_in evaluations (Halving.Done n l) = Quote.Served (figures n (length l) evaluations)
-quote_in evaluations (Halving.TooMany n) = Quote.TooMany n
-quote_in evaluations (Halving.NoSpace n) = Quote.NoSpace
+quote_in evaluations (Halving.Done n l) = Ok (figures n (length l) evaluations)
+quote_in evaluations (Halving.TooMany n) = Err (QuoteError.TooMany n)
+quote_in evaluations (Halving.NoSpace n) = Err QuoteError.NoSpace
 
 unfoldable pub quotation : Prepared → Tolerances → List Item → Quote
 quotation p tol g = quote_in (evaluations_of p tol g) (division p tol (length g + most) g)
@@ -56,17 +60,17 @@ scratch_enough roomJoints roomTips = leb most (roomJoints / 5) && leb most (room
 unfoldable pub quote_check : Kinematics → Tolerances → (poses joints : List Float) → (roomJoints roomTips : ℕ) → Checked
 quote_check k tol poses joints roomJoints roomTips =
     first_refusal
-    (demand (scratch_whole roomJoints roomTips) lengths_differ 0
+    (demand (scratch_whole roomJoints roomTips) Cause.LengthsDiffer 0
     ∷ division_check k tol poses joints 0 0
     ∷ [])
 
 abbrev pub unless_refused : Checked → Quote → Quote
-unless_refused Checked.Passed answer = answer
-unless_refused (Checked.Refused r) answer = Quote.Refused r
+unless_refused (Ok _) answer = answer
+unless_refused (Err r) answer = Err (QuoteError.Refused r)
 
 unfoldable pub quote_checked : Kinematics → Tolerances → (poses joints : List Float) → (roomJoints roomTips : ℕ) → Quote
 quote_checked k tol poses joints roomJoints roomTips =
-    cond (scratch_enough roomJoints roomTips) (quotation (prepared k) tol (given poses joints)) Quote.NoSpace
+    cond (scratch_enough roomJoints roomTips) (quotation (prepared k) tol (given poses joints)) (Err QuoteError.NoSpace)
 
 unfoldable pub quote_path : Kinematics → Tolerances → (poses joints : List Float) → (roomJoints roomTips : ℕ) → Quote
 quote_path k tol poses joints roomJoints roomTips =
@@ -77,7 +81,7 @@ unfoldable pub cleared : List Float → List Float
 cleared l = replicate (length l) nought
 
 unfoldable pub scratch_left : Quote → List Float → List Float
-scratch_left (Quote.Refused r) l = l
-scratch_left Quote.NoSpace l = cleared l
-scratch_left (Quote.TooMany n) l = cleared l
-scratch_left (Quote.Served f) l = cleared l
+scratch_left (Err (QuoteError.Refused r)) l = l
+scratch_left (Err QuoteError.NoSpace) l = cleared l
+scratch_left (Err (QuoteError.TooMany n)) l = cleared l
+scratch_left (Ok f) l = cleared l

@@ -1,23 +1,19 @@
 -- One step of the machine that finds a quotation's figures. It keeps no list: the last item that stays and the first
 -- that waits are tested; then the second stays, or their midpoint waits before it.
-use Rattle.std.specs.Prelude.{ℕ, ◌+◌, ◌-◌, ◌*◌, ◌≤◌, ◌<◌, ◌≡◌, Bool, cond, List, eqb, ltb, Float}
-use Rattle.std.proofs.Math.Option.{Option, none, some}
+use Rattle.std.specs.Prelude.{ℕ, ◌+◌, ◌-◌, ◌*◌, ◌≤◌, Bool, cond, List, eqb, ltb, Float, Err, None, Ok, Option, Some}
 use Rattle.geometry.specs.declared.Vec3.{Vec3}
 use Rattle.chain.specs.declared.Joints.{Joints}
 use Rattle.chain.specs.declared.Prepared.{Prepared}
 use Rattle.path.specs.Solving.{joints_over}
 use Rattle.middle.specs.declared.Item.{Item}
 use Rattle.middle.specs.declared.Tolerances.{Tolerances}
-use Rattle.middle.specs.declared.Verdict.{Verdict}
-use Rattle.middle.specs.declared.Verdict.TheVariants.{Keep, Divide}
 use Rattle.middle.specs.Testing.{pose_of, midpoint, divides}
 use Rattle.turn.specs.Items.{item, joints_in, item_at}
 use Rattle.turn.specs.Turning.{most, axis_at, reached}
 use Rattle.quote.specs.declared.Place.{Place}
-use Rattle.quote.specs.declared.Quote.{Quote}
+use Rattle.quote.specs.declared.QuoteError.{QuoteError}
 use Rattle.quote.specs.declared.Quoter.{Quoter}
-use Rattle.quote.specs.declared.Stepped.{Stepped}
-use Rattle.quote.specs.Quotation.{cost_of, figures}
+use Rattle.quote.specs.Quotation.{Quote, cost_of, figures}
 
 -- ---- the first that waits
 -- a joint set with the pose that it reaches, as every midpoint has it
@@ -37,8 +33,8 @@ unfoldable pub goes_on : ℕ → Place → Bool
 goes_on count s = ltb (s.top + s.next) (most + count)
 
 -- ---- one step, by the numbers and the left item
-unfoldable pub verdict_of : Prepared → Tolerances → Item → Item → Verdict
-verdict_of p tol left right = cond (divides p tol left right) (Divide (midpoint p left right)) Keep
+unfoldable pub verdict_of : Prepared → Tolerances → Item → Item → Option Item
+verdict_of p tol left right = cond (divides p tol left right) (Some (midpoint p left right)) None
 
 -- the first that waits stays
 unfoldable pub past : Place → Item → ℕ → Place
@@ -55,15 +51,15 @@ unfoldable pub if_inserted : Place → Item → List Float → List Float
 if_inserted s middle stack = cond (eqb s.inserted most) stack (joints_over middle.joints stack ((s.top - 1) * 5))
 
 unfoldable pub place_with : Place → ℕ → Option Place
-place_with s tested = cond (eqb s.inserted most) none (some (with_midpoint s tested))
+place_with s tested = cond (eqb s.inserted most) None (Some (with_midpoint s tested))
 
-abbrev pub place_by : Tolerances → Place → Item → Verdict → Option Place
-place_by tol s right Keep = some (past s right (cost_of tol s.left right))
-place_by tol s right (Divide middle) = place_with s (cost_of tol s.left right)
+abbrev pub place_by : Tolerances → Place → Item → Option Item → Option Place
+place_by tol s right None = Some (past s right (cost_of tol s.left right))
+place_by tol s right (Some middle) = place_with s (cost_of tol s.left right)
 
-abbrev pub stack_by : Place → List Float → Verdict → List Float
-stack_by s stack Keep = stack
-stack_by s stack (Divide middle) = if_inserted s middle stack
+abbrev pub stack_by : Place → List Float → Option Item → List Float
+stack_by s stack None = stack
+stack_by s stack (Some middle) = if_inserted s middle stack
 
 -- none where one more is too many
 unfoldable pub place_after : Prepared → Tolerances → Place → Item → Option Place
@@ -82,16 +78,17 @@ keeping p count s lent solved stack = record {
   end_axis = axis_at p solved (next_given count s.next);
 }
 
--- how it comes about: the axis of the first that waits, and that of the next given joint set once the first that waits stays
+-- how it comes about: the axis of the first that waits, and that of the next given joint set once the first that waits
+-- stays
 unfoldable pub waiting_axis : ℕ → Item → Vec3 → Vec3
 waiting_axis top right endAxis = cond (eqb top most) endAxis right.pose.axis
 
 unfoldable pub end_after : Prepared → (count top next : ℕ) → Vec3 → List Float → Vec3
 end_after p count top next endAxis solved = cond (eqb top most) (axis_at p solved (next_given count next)) endAxis
 
-abbrev pub stepped : Prepared → ℕ → (lent solved stack : List Float) → Option Place → Stepped
-stepped p count lent solved stack none = Stepped.TooMany
-stepped p count lent solved stack (some s) = Stepped.On (keeping p count s lent solved stack)
+abbrev pub stepped : Prepared → ℕ → (lent solved stack : List Float) → Option Place → Option Quoter
+stepped p count lent solved stack None = None
+stepped p count lent solved stack (Some s) = Some (keeping p count s lent solved stack)
 
 unfoldable pub with_middle : Quoter → Item → ℕ → Quoter
 with_middle m middle tested = record {
@@ -102,28 +99,24 @@ with_middle m middle tested = record {
   end_axis = m.end_axis;
 }
 
-unfoldable pub inserting : Quoter → Item → ℕ → Stepped
-inserting m middle tested = cond (eqb m.place.inserted most) Stepped.TooMany (Stepped.On (with_middle m middle tested))
+unfoldable pub inserting : Quoter → Item → ℕ → Option Quoter
+inserting m middle tested = cond (eqb m.place.inserted most) None (Some (with_middle m middle tested))
 
 -- ---- the start, and the answer at the end
 unfoldable pub begun : (lent solved : List Float) → Place
 begun lent solved = record { left = item_at lent solved 0; top = most; next = 1; inserted = 0; evaluations = 0 }
 
 abbrev pub served_at : ℕ → Place → Quote
-served_at count s = Quote.Served (figures s.inserted (count + s.inserted) s.evaluations)
+served_at count s = Ok (figures s.inserted (count + s.inserted) s.evaluations)
 
-abbrev pub answer_in : ℕ → Stepped → Quote
-answer_in count (Stepped.On last) = served_at count last.place
-answer_in count Stepped.TooMany = Quote.TooMany most
+abbrev pub answer_in : ℕ → Option Quoter → Quote
+answer_in count (Some last) = served_at count last.place
+answer_in count None = Err (QuoteError.TooMany most)
 
-abbrev pub Few : Stepped → Type 0
-Few (Stepped.On last) = last.place.inserted ≤ most
-Few Stepped.TooMany = Unit {0}
+abbrev pub Few : Option Quoter → Type 0
+Few (Some last) = last.place.inserted ≤ most
+Few None = Unit {0}
 
 -- ---- what a step asks of the numbers and of the lengths
--- there are given items, in slices of so many numbers, and a stack
-abbrev pub Lent : (count lent solved stack : ℕ) → Type 0
-Lent count lent solved stack = ((0 < count) × (count ≤ 100000)) × (((lent ≡ count * 6) × (solved ≡ count * 5)) × (50000 ≤ stack))
-
 abbrev pub Runs : ℕ → Place → Type 0
 Runs count s = ((s.top ≤ most) × (s.next ≤ count)) × (((most ≤ s.top + s.inserted) × (s.inserted ≤ most)) × (s.evaluations ≤ 1000000000))

@@ -2,28 +2,26 @@
 ghost use Rattle.std.specs.Prelude.{◌≡◌};
 ghost use Rattle.quote.specs.Quotation as S;
 
-use chain::{Checked, Kinematics, demand, then};
+use chain::{Kinematics, demand};
 use middle::Tolerances;
+use refusal::{Cause, Refusal};
 
+#[tactic(auto, unfolding(crate::specs::Quotation::scratch_whole))]
 pub fn scratch_whole(room_joints: usize, room_tips: usize) -> bool
     ensures { result ≡ S.scratch_whole room_joints room_tips }
 {
-    if room_joints % 5 == 0 {
-        return room_tips % 3 == 0;
-    }
-    false
+    room_joints % 5 == 0 && room_tips % 3 == 0
 }
 
 // Space for 10,000 joint sets, and for as many tips.
+#[tactic(auto, unfolding(crate::specs::Quotation::scratch_enough))]
 pub fn scratch_enough(room_joints: usize, room_tips: usize) -> bool
     ensures { result ≡ S.scratch_enough room_joints room_tips }
 {
-    if 10000 <= room_joints / 5 {
-        return 10000 <= room_tips / 3;
-    }
-    false
+    10000 <= room_joints / 5 && 10000 <= room_tips / 3
 }
 
+#[tactic(auto, unfolding(crate::specs::Quotation::quote_check))]
 pub fn quote_check(
     k: Kinematics,
     tol: Tolerances,
@@ -31,16 +29,13 @@ pub fn quote_check(
     solved: &[f64],
     room_joints: usize,
     room_tips: usize,
-) -> Checked
+) -> Result<(), Refusal>
     ensures { result ≡ S.quote_check k tol given.now solved.now room_joints room_tips }
 {
-    let scratch = demand(
+    demand(
         scratch_whole(room_joints, room_tips),
-        refusal::LENGTHS_DIFFER,
+        Cause::LengthsDiffer,
         0,
-    );
-    then(
-        scratch,
-        divide::division_check(k, tol, given, solved, solved.len(), 0, 0),
-    )
+    )?;
+    divide::division_check(k, tol, given, solved, solved.len(), 0, 0)
 }

@@ -2,6 +2,9 @@
 // path written. What waits are midpoints, and their joint sets stand in lent scratch; given poses wait where they are.
 #![tactic(auto)]
 
+ghost use Rattle.std.specs.Prelude.{◌≡◌};
+ghost use Rattle.quote.specs.declared.QuoteError.TheVariants.{Refused};
+
 mod checking;
 mod entries;
 mod stepping;
@@ -12,7 +15,8 @@ use geometry::Vec3;
 use middle::Item;
 use refusal::Refusal;
 
-// How many poses are inserted, how many the output holds, and how many forward evaluations the tests and insertions count.
+// How many poses are inserted, how many the output holds, and how many forward evaluations the tests and insertions
+// count.
 #[derive(Clone, Copy)]
 pub struct Figures {
     pub inserted: u64,
@@ -20,14 +24,21 @@ pub struct Figures {
     pub evaluations: u64,
 }
 
-// What a quotation answers: a refusal of the checks, too little scratch (28), an insertion that is one too many (27, with
-// the number inserted), or the figures.
+// Why a quotation has no figures: a refusal of the checks, too little scratch (28), or an insertion that is one too
+// many (27, with the number inserted).
 #[derive(Clone, Copy)]
-pub enum Quote {
+pub enum QuoteError {
     Refused(Refusal),
     NoSpace,
     TooMany(u64),
-    Served(Figures),
+}
+
+impl From<Refusal> for QuoteError {
+    ghost from_gives = { λ r e. e ≡ Refused r };
+
+    fn from(r: Refusal) -> QuoteError {
+        QuoteError::Refused(r)
+    }
 }
 
 // Where a quotation stands: the last item of those that stay; the first joint set that waits in the scratch, which is
@@ -41,8 +52,8 @@ pub struct Place {
     pub evaluations: u64,
 }
 
-// The same with what was evaluated already: the axis that the left joint set reaches; the first item that waits, and the
-// axis that its joint set reaches; and the axis that the next given joint set reaches.
+// The same with what was evaluated already: the axis that the left joint set reaches; the first item that waits, and
+// the axis that its joint set reaches; and the axis that the next given joint set reaches.
 #[derive(Clone, Copy)]
 pub struct Quoter {
     pub place: Place,
@@ -50,11 +61,4 @@ pub struct Quoter {
     pub right: Item,
     pub right_axis: Vec3,
     pub end_axis: Vec3,
-}
-
-// What one test comes to.
-#[derive(Clone, Copy)]
-pub enum Stepped {
-    On(Quoter),
-    TooMany,
 }

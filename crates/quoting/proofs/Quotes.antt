@@ -53,14 +53,14 @@ module _ {A : Type 0} (divides : A → A → Bool) (mid : A → A → A) (cost :
     quoting_start x w e r = record {
       room = r;
       few = omega arith;
-      long = ap length (sym e) ∙ plus_zero_lem (length g);
+      long = ap length (sym e) ∙ is_plus_zero (length g);
       calm = step_one divides mid x;
       same = ap (halve divides mid space limit 0) e ∙ ap (λ (k : ℕ). halve divides mid space k 0 (x ∷ w)) (sym (sub-zero limit));
       cost_is = ap (λ (l : List A). tested divides mid cost l + stepping divides mid cost limit l) e ∙ ap (λ (k : ℕ). tested divides mid cost (x ∷ w) + stepping divides mid cost k (x ∷ w)) (sym (sub-zero limit)) ∙ zero_plus _ _;
     }
       where
-        plus_zero_lem : (k : ℕ) → k ≡ k + 0
-        plus_zero_lem k = omega arith
+        is_plus_zero : (k : ℕ) → k ≡ k + 0
+        is_plus_zero k = omega arith
 
         zero_plus : (a b : ℕ) → a + b ≡ 0 + a + b
         zero_plus a b = omega arith

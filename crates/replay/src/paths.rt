@@ -1,96 +1,132 @@
-// The entries of paths, of division, of jobs and of the cable number. A job that is read stands where another case has
-// its chain.
-use crate::cases::{WHICH, byte_room, chain_or_job, field, numbers, single};
-use crate::told;
+// The entries of paths, of division, of quotations, of jobs and of the cable number. A job that is read stands where
+// another case has its chain.
+use crate::cases;
+use crate::cases::Case;
+use crate::told::{Numbers, called};
+use arrayvec::ArrayVec;
 use std::io;
 use std::io::Write;
 
 pub fn solve_path<W: Write>(
     out: &mut W,
-    case: &[u8],
+    case: &Case,
     poses: &[f64],
     start: &[f64],
     joints: &mut [f64],
 ) -> io::Result<()> {
-    let mut at: u64 = 7;
-    let mut letter: u8 = 7;
-    let number = maztubel::maztubel_solve_path(
-        chain_or_job(case),
-        poses,
-        start,
-        single(case, 0),
-        joints,
-        &mut at,
-        &mut letter,
-    );
-    told::begin(out, b"solve_path", number, at, letter)?;
-    told::numbers(out, joints)?;
-    told::end(out)
+    called(out, "solve_path", |at, letter| {
+        maztubel::maztubel_solve_path(
+            case.chain_or_job,
+            poses,
+            start,
+            case.single(0),
+            joints,
+            at,
+            letter,
+        )
+    })?;
+    writeln!(out, "{}", Numbers(joints))
 }
 
 pub fn subdivide_path<W: Write>(
     out: &mut W,
-    case: &[u8],
+    case: &Case,
     poses: &[f64],
     joints: &[f64],
     out_poses: &mut [f64],
     out_joints: &mut [f64],
 ) -> io::Result<()> {
     let mut inserted: u64 = 7;
-    let mut at: u64 = 7;
-    let mut letter: u8 = 7;
-    let number = maztubel::maztubel_subdivide_path(
-        chain_or_job(case),
-        poses,
-        joints,
-        single(case, 0),
-        single(case, 1),
-        out_poses,
-        out_joints,
-        &mut inserted,
-        &mut at,
-        &mut letter,
-    );
-    told::begin(out, b"subdivide_path", number, at, letter)?;
-    divided(out, inserted, out_poses, out_joints)
+    called(out, "subdivide_path", |at, letter| {
+        maztubel::maztubel_subdivide_path(
+            case.chain_or_job,
+            poses,
+            joints,
+            case.single(0),
+            case.single(1),
+            out_poses,
+            out_joints,
+            &mut inserted,
+            at,
+            letter,
+        )
+    })?;
+    writeln!(
+        out,
+        " {inserted}{}{}",
+        Numbers(out_poses),
+        Numbers(out_joints)
+    )
 }
 
 pub fn solve_and_divide<W: Write>(
     out: &mut W,
-    case: &[u8],
+    case: &Case,
     poses: &[f64],
     start: &[f64],
     out_poses: &mut [f64],
     out_joints: &mut [f64],
 ) -> io::Result<()> {
     let mut inserted: u64 = 7;
-    let mut at: u64 = 7;
-    let mut letter: u8 = 7;
-    let number = maztubel::maztubel_solve_and_divide(
-        chain_or_job(case),
-        poses,
-        start,
-        single(case, 0),
-        single(case, 1),
-        single(case, 2),
-        out_poses,
-        out_joints,
-        &mut inserted,
-        &mut at,
-        &mut letter,
-    );
-    told::begin(out, b"solve_and_divide", number, at, letter)?;
-    divided(out, inserted, out_poses, out_joints)
+    called(out, "solve_and_divide", |at, letter| {
+        maztubel::maztubel_solve_and_divide(
+            case.chain_or_job,
+            poses,
+            start,
+            case.single(0),
+            case.single(1),
+            case.single(2),
+            out_poses,
+            out_joints,
+            &mut inserted,
+            at,
+            letter,
+        )
+    })?;
+    writeln!(
+        out,
+        " {inserted}{}{}",
+        Numbers(out_poses),
+        Numbers(out_joints)
+    )
 }
 
-fn divided<W: Write>(out: &mut W, inserted: u64, poses: &[f64], joints: &[f64]) -> io::Result<()> {
-    told::count(out, inserted)?;
-    told::numbers(out, poses)?;
-    told::numbers(out, joints)?;
-    told::end(out)
+pub fn quote<W: Write>(
+    out: &mut W,
+    case: &Case,
+    poses: &[f64],
+    joints: &[f64],
+    scratch_joints: &mut [f64],
+    scratch_tips: &mut [f64],
+) -> io::Result<()> {
+    let mut inserted: u64 = 7;
+    let mut poses_out: u64 = 7;
+    let mut evaluations: u64 = 7;
+    called(out, "quote", |at, letter| {
+        maztubel::maztubel_quote(
+            case.chain_or_job,
+            poses,
+            joints,
+            case.single(0),
+            case.single(1),
+            scratch_joints,
+            scratch_tips,
+            &mut inserted,
+            &mut poses_out,
+            &mut evaluations,
+            at,
+            letter,
+        )
+    })?;
+    writeln!(
+        out,
+        " {inserted} {poses_out} {evaluations}{}{}",
+        Numbers(scratch_joints),
+        Numbers(scratch_tips)
+    )
 }
 
-pub fn read_job<W: Write>(out: &mut W, case: &[u8]) -> io::Result<()> {
+pub fn read_job<W: Write>(out: &mut W, case: &Case) -> io::Result<()> {
     let mut chain_at: u64 = 7;
     let mut chain_length: u64 = 7;
     let mut poses_at: u64 = 7;
@@ -100,7 +136,7 @@ pub fn read_job<W: Write>(out: &mut W, case: &[u8]) -> io::Result<()> {
     let mut axis: f64 = 7.25;
     let mut at: u64 = 7;
     let number = maztubel::maztubel_read_job(
-        chain_or_job(case),
+        case.chain_or_job,
         &mut chain_at,
         &mut chain_length,
         &mut poses_at,
@@ -110,70 +146,53 @@ pub fn read_job<W: Write>(out: &mut W, case: &[u8]) -> io::Result<()> {
         &mut axis,
         &mut at,
     );
-    told::begin(out, b"read_job", number, at, 0)?;
-    told::count(out, chain_at)?;
-    told::count(out, chain_length)?;
-    told::count(out, poses_at)?;
-    told::count(out, count)?;
-    told::numbers(out, &[cone, chord, axis])?;
-    told::end(out)
+    write!(out, "read_job {number} {at} 0")?;
+    write!(out, " {chain_at} {chain_length} {poses_at} {count}")?;
+    writeln!(out, "{}", Numbers(&[cone, chord, axis]))
 }
 
-pub fn job_poses<W: Write>(out: &mut W, case: &[u8], poses: &mut [f64]) -> io::Result<()> {
+pub fn job_poses<W: Write>(out: &mut W, case: &Case, poses: &mut [f64]) -> io::Result<()> {
     let mut at: u64 = 7;
-    let number = maztubel::maztubel_job_poses(chain_or_job(case), poses, &mut at);
-    told::begin(out, b"job_poses", number, at, 0)?;
-    told::numbers(out, poses)?;
-    told::end(out)
+    let number = maztubel::maztubel_job_poses(case.chain_or_job, poses, &mut at);
+    writeln!(out, "job_poses {number} {at} 0{}", Numbers(poses))
 }
 
-pub fn cable_number<W: Write>(out: &mut W, case: &[u8], joints: &[f64]) -> io::Result<()> {
+pub fn cable_number<W: Write>(out: &mut W, case: &Case, joints: &[f64]) -> io::Result<()> {
     let mut turns: u64 = 7;
-    let mut at: u64 = 7;
-    let mut letter: u8 = 7;
-    let number = maztubel::maztubel_cable_number(
-        chain_or_job(case),
-        joints,
-        field(case, WHICH) as u64,
-        &mut turns,
-        &mut at,
-        &mut letter,
-    );
-    told::begin(out, b"cable_number", number, at, letter)?;
-    told::count(out, turns)?;
-    told::end(out)
+    called(out, "cable_number", |at, letter| {
+        maztubel::maztubel_cable_number(
+            case.chain_or_job,
+            joints,
+            case.which as u64,
+            &mut turns,
+            at,
+            letter,
+        )
+    })?;
+    writeln!(out, " {turns}")
 }
 
-pub fn write_job<W: Write>(out: &mut W, case: &[u8], poses: &[f64]) -> io::Result<()> {
+pub fn write_job<W: Write>(out: &mut W, case: &Case, poses: &[f64]) -> io::Result<()> {
     let mut job = [7u8; 1024];
-    let room = byte_room(case, WHICH, &job);
-    write_into(out, case, poses, &mut job[..room])
+    write_into(out, case, poses, cases::lent(&mut job, case.which as usize))
 }
 
-fn write_into<W: Write>(out: &mut W, case: &[u8], poses: &[f64], job: &mut [u8]) -> io::Result<()> {
+// The bytes that are lent stand as numbers, eight bytes each.
+fn write_into<W: Write>(out: &mut W, case: &Case, poses: &[f64], job: &mut [u8]) -> io::Result<()> {
     let mut length: u64 = 7;
-    let mut at: u64 = 7;
-    let mut letter: u8 = 7;
-    let number = maztubel::maztubel_write_job(
-        chain_or_job(case),
-        poses,
-        single(case, 0),
-        single(case, 1),
-        single(case, 2),
-        job,
-        &mut length,
-        &mut at,
-        &mut letter,
-    );
-    told::begin(out, b"write_job", number, at, letter)?;
-    told::count(out, length)?;
-    tell_bytes(out, job)?;
-    told::end(out)
-}
-
-// As numbers, eight bytes each.
-fn tell_bytes<W: Write>(out: &mut W, bytes: &[u8]) -> io::Result<()> {
-    let mut words = [0.0f64; 128];
-    let n = numbers(bytes, &mut words);
-    told::numbers(out, &words[..n])
+    called(out, "write_job", |at, letter| {
+        maztubel::maztubel_write_job(
+            case.chain_or_job,
+            poses,
+            case.single(0),
+            case.single(1),
+            case.single(2),
+            job,
+            &mut length,
+            at,
+            letter,
+        )
+    })?;
+    let numbers: ArrayVec<f64, 128> = cases::read_each(cases::in_words(job), cases::number);
+    writeln!(out, " {length}{}", Numbers(&numbers))
 }

@@ -1,79 +1,58 @@
-// The entries of quotas. A case has the balances where another has a name, and the shop and the amount where another has a model, eight
-// bytes each.
-use crate::cases::{MODEL, NAME, chain_or_job, part, single, word, words};
-use crate::told;
+// The entries of quotas. A case has the balances where another has a name, and the shop and the amount where another
+// has a model, eight bytes each.
+use crate::cases;
+use crate::cases::Case;
+use crate::told::{Numbers, WholeNumbers, called};
+use arrayvec::ArrayVec;
 use std::io;
 use std::io::Write;
 
-const SHOP: u8 = 0;
-
-const AMOUNT: u8 = 1;
-
-pub fn grant<W: Write>(out: &mut W, case: &[u8]) -> io::Result<()> {
-    let mut balances = [0u64; 40];
-    let n = words(part(case, NAME), &mut balances);
-    grant_in(out, case, &mut balances[..n])
+fn balances_of(case: &Case) -> ArrayVec<u64, 40> {
+    cases::read_each(cases::in_words(case.name), cases::whole_number)
 }
 
-fn grant_in<W: Write>(out: &mut W, case: &[u8], balances: &mut [u64]) -> io::Result<()> {
-    let given = part(case, MODEL);
-    let number = maztubel::maztubel_grant(balances, word(given, SHOP), word(given, AMOUNT));
-    told::begin(out, b"grant", number, 0, 0)?;
-    told::whole_numbers(out, balances)?;
-    told::end(out)
+// The shop, and how much; 0 where it is not there.
+fn asked_of(case: &Case) -> (u64, u64) {
+    let words = cases::in_words(case.model);
+    let shop = words.first().map_or(0, cases::whole_number);
+    let amount = words.get(1).map_or(0, cases::whole_number);
+    (shop, amount)
+}
+
+pub fn grant<W: Write>(out: &mut W, case: &Case) -> io::Result<()> {
+    let mut balances = balances_of(case);
+    let (shop, amount) = asked_of(case);
+    let number = maztubel::maztubel_grant(balances.as_mut_slice(), shop, amount);
+    writeln!(out, "grant {number} 0 0{}", WholeNumbers(&balances))
 }
 
 pub fn divide_for<W: Write>(
     out: &mut W,
-    case: &[u8],
+    case: &Case,
     poses: &[f64],
     joints: &[f64],
     out_poses: &mut [f64],
     out_joints: &mut [f64],
 ) -> io::Result<()> {
-    let mut balances = [0u64; 40];
-    let n = words(part(case, NAME), &mut balances);
-    divide_in(
-        out,
-        case,
-        poses,
-        joints,
-        &mut balances[..n],
-        out_poses,
-        out_joints,
-    )
-}
-
-fn divide_in<W: Write>(
-    out: &mut W,
-    case: &[u8],
-    poses: &[f64],
-    joints: &[f64],
-    balances: &mut [u64],
-    out_poses: &mut [f64],
-    out_joints: &mut [f64],
-) -> io::Result<()> {
+    let mut balances = balances_of(case);
+    let (shop, _) = asked_of(case);
     let mut inserted: u64 = 7;
-    let mut at: u64 = 7;
-    let mut letter: u8 = 7;
-    let number = maztubel::maztubel_divide_for(
-        balances,
-        word(part(case, MODEL), SHOP),
-        chain_or_job(case),
-        poses,
-        joints,
-        single(case, 0),
-        single(case, 1),
-        out_poses,
-        out_joints,
-        &mut inserted,
-        &mut at,
-        &mut letter,
-    );
-    told::begin(out, b"divide_for", number, at, letter)?;
-    told::count(out, inserted)?;
-    told::whole_numbers(out, balances)?;
-    told::numbers(out, out_poses)?;
-    told::numbers(out, out_joints)?;
-    told::end(out)
+    called(out, "divide_for", |at, letter| {
+        maztubel::maztubel_divide_for(
+            balances.as_mut_slice(),
+            shop,
+            case.chain_or_job,
+            poses,
+            joints,
+            case.single(0),
+            case.single(1),
+            out_poses,
+            out_joints,
+            &mut inserted,
+            at,
+            letter,
+        )
+    })?;
+    write!(out, " {inserted}{}", WholeNumbers(&balances))?;
+    writeln!(out, "{}{}", Numbers(out_poses), Numbers(out_joints))
 }

@@ -1,7 +1,7 @@
 // The entries of the extremes beside a path. Joints that are replaced, and the summary beside them, hold 7.25 before
 // the call, so that the one is the other's own.
-use crate::cases::{WHICH, field, single};
-use crate::told;
+use crate::cases::Case;
+use crate::told::Numbers;
 use std::io;
 use std::io::Write;
 
@@ -11,45 +11,38 @@ pub fn build_extremes<W: Write>(
     summary: &mut [f64],
 ) -> io::Result<()> {
     let number = maztubel::maztubel_build_extremes(joints, summary);
-    told::begin(out, b"build_extremes", number, 0, 0)?;
-    told::numbers(out, summary)?;
-    told::end(out)
+    writeln!(out, "build_extremes {number} 0 0{}", Numbers(summary))
 }
 
 pub fn replace_joints<W: Write>(
     out: &mut W,
-    case: &[u8],
+    case: &Case,
     fresh: &[f64],
     joints: &mut [f64],
     summary: &mut [f64],
 ) -> io::Result<()> {
-    let index = field(case, WHICH) as u64;
+    let index = case.which as u64;
     let number = maztubel::maztubel_replace_joints(joints, summary, index, fresh);
-    told::begin(out, b"replace_joints", number, 0, 0)?;
-    told::numbers(out, joints)?;
-    told::numbers(out, summary)?;
-    told::end(out)
+    write!(out, "replace_joints {number} 0 0")?;
+    writeln!(out, "{}{}", Numbers(joints), Numbers(summary))
 }
 
 pub fn first_above<W: Write>(
     out: &mut W,
-    case: &[u8],
+    case: &Case,
     joints: &[f64],
     summary: &[f64],
 ) -> io::Result<()> {
-    let rotary = field(case, WHICH) as u64;
+    let rotary = case.which as u64;
     let mut found: u64 = 7;
     let mut index: u64 = 7;
     let number = maztubel::maztubel_first_above(
         joints,
         summary,
         rotary,
-        single(case, 0),
+        case.single(0),
         &mut found,
         &mut index,
     );
-    told::begin(out, b"first_above", number, 0, 0)?;
-    told::count(out, found)?;
-    told::count(out, index)?;
-    told::end(out)
+    writeln!(out, "first_above {number} 0 0 {found} {index}")
 }

@@ -1,123 +1,77 @@
-// The line of a case. Lent numbers are 16 hexadecimal digits each, up to the last that differs from the one behind it; that one stands with how often it does.
-ghost use Rattle.std.specs.Prelude.{◌≤◌, length};
-
-use float::Comparison;
-use std::io;
+// The line of a case.
+use std::cmp::Ordering;
 use std::io::Write;
+use std::{fmt, io};
+use text::Float;
 
-pub fn begin<W: Write>(
+// Calls an entry, with the place and the letter at 7, and begins the line with what it hands back.
+pub fn called<W: Write, F: FnOnce(&mut u64, &mut u8) -> u32>(
     out: &mut W,
-    entry: &[u8],
-    number: u32,
-    at: u64,
-    letter: u8,
-) -> io::Result<()> {
-    text::write(out, entry)?;
-    count(out, number as u64)?;
-    count(out, at)?;
-    count(out, letter as u64)
+    entry: &str,
+    call: F,
+) -> io::Result<()>
+    requires { F.IsAlwaysCallable call }
+{
+    let mut at: u64 = 7;
+    let mut letter: u8 = 7;
+    let number = call(&mut at, &mut letter);
+    write!(out, "{entry} {number} {at} {letter}")
 }
 
-pub fn end<W: Write>(out: &mut W) -> io::Result<()> {
-    text::write(out, b"\n")
-}
-
-pub fn unknown<W: Write>(out: &mut W) -> io::Result<()> {
-    text::write(out, b"unknown\n")
-}
-
-pub fn count<W: Write>(out: &mut W, n: u64) -> io::Result<()> {
-    text::write(out, b" ")?;
-    decimal(out, n)
-}
-
-fn decimal<W: Write>(out: &mut W, n: u64) -> io::Result<()> {
-    write!(out, "{n}")
-}
-
-pub fn judged<W: Write>(
+// Calls one of the four functions of a number, and judges its answer by totalOrder.
+pub fn judge<W: Write, F: FnOnce(&mut f64) -> u32>(
     out: &mut W,
-    entry: &[u8],
-    number: u32,
-    answer: f64,
+    entry: &str,
+    call: F,
     least: f64,
     greatest: f64,
-) -> io::Result<()> {
-    text::write(out, entry)?;
-    count(out, number as u64)?;
-    if between(answer, least, greatest) {
-        return text::write(out, b" within\n");
+) -> io::Result<()>
+    requires { F.IsAlwaysCallable call }
+{
+    let mut answer: f64 = 7.25;
+    let number = call(&mut answer);
+    if float::precedes(answer, least) || float::precedes(greatest, answer) {
+        writeln!(out, "{entry} {number} outside {}", Float(answer))
+    } else {
+        writeln!(out, "{entry} {number} within")
     }
-    text::write(out, b" outside")?;
-    text::write_float(out, answer)?;
-    end(out)
 }
 
-// By totalOrder.
-fn between(x: f64, least: f64, greatest: f64) -> bool {
-    if float::precedes(x, least) {
-        return false;
-    }
-    !float::precedes(greatest, x)
-}
+// Lent numbers behind a colon, 16 hexadecimal digits each, up to the last that differs from the one behind it; that one
+// stands with how often it does.
+#[derive(Clone, Copy)]
+pub struct Numbers<'a>(pub &'a [f64]);
 
-pub fn numbers<W: Write>(out: &mut W, xs: &[f64]) -> io::Result<()> {
-    text::write(out, b" :")?;
-    let n = front(xs);
-    each(out, xs, n)?;
-    if n < xs.len() {
-        text::write_float(out, xs[n])?;
-        text::write(out, b"*")?;
-        decimal(out, (xs.len() - n) as u64)?;
-    }
-    Ok(())
-}
-
-// In decimals.
-pub fn whole_numbers<W: Write>(out: &mut W, xs: &[u64]) -> io::Result<()> {
-    text::write(out, b" :")?;
-    each_count(out, xs, xs.len())
-}
-
-fn each_count<W: Write>(out: &mut W, xs: &[u64], n: usize) -> io::Result<()> {
-    let mut i: usize = 0;
-    while i < n {
-        if xs.len() <= i {
+impl fmt::Display for Numbers<'_> {
+    fn fmt<W: fmt::Write>(&self, f: &mut fmt::Formatter<W>) -> fmt::Result {
+        let xs = self.0;
+        write!(f, " :")?;
+        let Some(last) = xs.last() else {
             return Ok(());
+        };
+        let run = xs.iter().rev().take_while(|x| same(**x, *last)).count();
+        for x in &xs[..xs.len() - run] {
+            write!(f, " {}", Float(*x))?;
         }
-        count(out, xs[i])?;
-        i += 1;
+        write!(f, " {}*{run}", Float(*last))
     }
-    Ok(())
-}
-
-// From where on all are the same.
-fn front(xs: &[f64]) -> usize {
-    let mut i = xs.len();
-    while 1 < i {
-        if !same(xs[i - 1], xs[i - 2]) {
-            return i - 1;
-        }
-        i -= 1;
-    }
-    0
 }
 
 fn same(x: f64, y: f64) -> bool {
-    match float::total_cmp(x, y) {
-        Comparison::Equal => true,
-        _ => false,
-    }
+    matches!(float::total_cmp(x, y), Ordering::Equal)
 }
 
-fn each<W: Write>(out: &mut W, xs: &[f64], count: usize) -> io::Result<()> {
-    let mut i: usize = 0;
-    while i < count {
-        if xs.len() <= i {
-            return Ok(());
+// Lent whole numbers behind a colon, in decimals.
+#[derive(Clone, Copy)]
+pub struct WholeNumbers<'a>(pub &'a [u64]);
+
+impl fmt::Display for WholeNumbers<'_> {
+    fn fmt<W: fmt::Write>(&self, f: &mut fmt::Formatter<W>) -> fmt::Result {
+        let xs = self.0;
+        write!(f, " :")?;
+        for x in xs {
+            write!(f, " {x}")?;
         }
-        text::write_float(out, xs[i])?;
-        i += 1;
+        Ok(())
     }
-    Ok(())
 }

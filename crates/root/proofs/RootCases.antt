@@ -88,8 +88,8 @@ case_zero (fin s (suc m) e) h = absurd (above (suc m) (up e) 1 (pos m) (up_pos e
     none : (d : ℕ) → 0 * 1 * d ≡ 0
     none d = omega arith
 
-pub case_below : (x : Float) → eq x nought ≡ false → lt x nought ≡ true → div binary64 nought nought ≡ root x
-unfolding root of_bits eq lt div
+pub case_below : (x : Float) → eq x nought ≡ false → lt x nought ≡ true → of_bits binary64 0x7ff8_0000_0000_0000 ≡ root x
+unfolding root of_bits eq lt
 case_below nan h l = absurd (false≢true l)
 case_below (inf true) h l = refl
 case_below (inf false) h l = absurd (false≢true l)
@@ -118,9 +118,9 @@ pub record Above (x : Float) : Type 0 where
   pub high : v < 2 ^ 2098
   pub root_is : root x ≡ root_units v
 
-in_units_lem : (a d v : ℕ) → a * U ≡ v * d → a * 2 ^ 1074 ≡ v * d
+equal_in_units : (a d v : ℕ) → a * U ≡ v * d → a * 2 ^ 1074 ≡ v * d
 unfolding U
-in_units_lem a d v h = h
+equal_in_units a d v h = h
 
 pub above_of : (m : ℕ) (e : lib.IntN.ℤ) → T (fits binary64 (fin false (suc m) e)) → Above (fin false (suc m) e)
 above_of m e t =
@@ -131,7 +131,7 @@ above_of m e t =
       is = i;
       pos = lib.Ieee.Positive.first_pos h.v (down e) (lt_of_lt_of_le (mul-pos (mul-pos (pos m) (up_pos e)) U_pos) (le_of_eq h.is.1));
       high = h.small;
-      root_is = opened ∙ ap root_units (units_div (suc m * up e) (down e) h.v (2 ^ 1074) (down_pos e) (in_units_lem (suc m * up e) (down e) h.v h.is.1));
+      root_is = opened ∙ ap root_units (units_div (suc m * up e) (down e) h.v (2 ^ 1074) (down_pos e) (equal_in_units (suc m * up e) (down e) h.v h.is.1));
     }
   where
     pos : (m : ℕ) → 0 < suc m

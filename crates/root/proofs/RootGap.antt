@@ -19,7 +19,7 @@ use Rattle.root.specs.Root.{root, root_units, whole_root}
 use Rattle.root.proofs.RootParts.{round_halves}
 use Rattle.root.proofs.RootOrder.{norm, gap_law_at, root_of_units, z_lo, z_hi, m_lo, m_hi}
 use Rattle.float.specs.Units.{U, Is}
-use Rattle.root.proofs.WholeRoot.{whole_root_lem}
+use Rattle.root.proofs.WholeRoot.{whole_root_right}
 
 four-U : 2 ^ 1076 ≡ 4 * U
 unfolding U
@@ -209,7 +209,7 @@ module _ (M k : ℕ) (M-lo : 2 ^ 52 ≤ M) (M-hi : M < 2 ^ 53) (k-lo : 622 ≤ k
       let S = squared in
       let y = round binary64 false ((2 * M + 1) * 2 ^ k + 1) (2 ^ 1075) in
       order.le_trans (round binary64 false (suc M * 2 ^ k) U) y (root x) (le_val (round binary64 false (suc M * 2 ^ k) U) y false false (suc M * 2 ^ k) (suc M * 2 ^ k) n_is middle (le_of_eq refl))
-      (order.le_trans y (root_units S.v) (root x) (above S.v (root_ge (S.v * 2 ^ 1076) (whole_root (S.v * 2 ^ 1076)) ((2 * M + 1) * 2 ^ k + 1) (whole_root_lem (S.v * 2 ^ 1076)) (past S.v S.D S.less S.near)))
+      (order.le_trans y (root_units S.v) (root x) (above S.v (root_ge (S.v * 2 ^ 1076) (whole_root (S.v * 2 ^ 1076)) ((2 * M + 1) * 2 ^ k + 1) (whole_root_right (S.v * 2 ^ 1076)) (past S.v S.D S.less S.near)))
       (root_of_units x S.v (mul-fits binary64 (round binary64 false (suc M * 2 ^ k) U) (round binary64 false (suc M * 2 ^ k) U)) S.is))
     where
       above : (v : ℕ) → (2 * M + 1) * 2 ^ k + 1 ≤ whole_root (v * 2 ^ 1076) → le (round binary64 false ((2 * M + 1) * 2 ^ k + 1) (2 ^ 1075)) (root_units v) ≡ true

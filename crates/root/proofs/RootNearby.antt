@@ -10,7 +10,7 @@ use Rattle.root.proofs.RootParts.{radicand_lo, radicand_hi, rooted, radicand, ex
 use Rattle.root.proofs.RootUnique.{one_root}
 use Rattle.float.specs.Units.{Is}
 use Rattle.root.specs.RootSteps.{WholeRoot, Nearby}
-use Rattle.root.proofs.WholeRoot.{whole_root_lem}
+use Rattle.root.proofs.WholeRoot.{whole_root_right}
 
 -- ---- from the root cut to a whole number, twice as fine
 pub of_root : (n s : ℕ) → 0 < s → WholeRoot (4 * n) s → Nearby n ((s + 1) / 2)
@@ -163,7 +163,7 @@ module _ (m f : ℕ) (m_lo : 4503599627370496 ≤ m) (m_hi : m < 900719925474099
               over n x a b c d = omega arith
 
   pub out_is : Is (of_bits binary64 (expo f * 4503599627370496 + q)) false (q * 2 ^ expo f)
-  out_is = result_is q (expo f) q_lo q_hi (e_small m f m_lo m_hi f_lo f_hi (whole_root (radicand m f * 2 ^ 44)) (whole_root_lem (radicand m f * 2 ^ 44)))
+  out_is = result_is q (expo f) q_lo q_hi (e_small m f m_lo m_hi f_lo f_hi (whole_root (radicand m f * 2 ^ 44)) (whole_root_right (radicand m f * 2 ^ 44)))
 
   pub no_nan_out : T (not (nan_bits binary64 (expo f * 4503599627370496 + q)))
   no_nan_out = subst (λ (z : Bool). T (not z)) (sym (nan_bits_is binary64 (expo f * 4503599627370496 + q))) (number (of_bits binary64 (expo f * 4503599627370496 + q)) _ out_is)
@@ -196,7 +196,7 @@ module _ (m f : ℕ) (m_lo : 4503599627370496 ≤ m) (m_hi : m < 900719925474099
   near_answer v e =
       let h = radicand m f * 2 ^ 44 in
       let s = whole_root h in
-      let r = whole_root_lem h in
+      let r = whole_root_right h in
       let g = 2 ^ expo f in
       let n : v * 2 ^ 1076 ≡ h * (g * g) = n_is m f m_lo m_hi f_lo f_hi s r v e in
       one_root v (of_bits binary64 (expo f * 4503599627370496 + q)) (root_units v) (of_bits-fits binary64 (expo f * 4503599627370496 + q)) (units_fit v)

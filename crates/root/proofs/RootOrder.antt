@@ -20,7 +20,7 @@ use Rattle.root.proofs.RootParts.{rooted, radicand}
 use Rattle.root.proofs.RootCases.{Above, above_of}
 use Rattle.float.specs.Units.{U, Is}
 use Rattle.float.specs.Helpers.{nought, size_of}
-use Rattle.root.proofs.WholeRoot.{whole_root_lem, whole_root_mono}
+use Rattle.root.proofs.WholeRoot.{whole_root_right, whole_root_mono}
 
 -- ---- the nearest value: v is q * 2 ^ j, and q has at most 53 digits
 module _ (v q j : ℕ) (shape : v ≡ q * 2 ^ j) (few : q < 2 ^ 53) (high : v < 2 ^ 2098) (q-pos : 0 < q) where
@@ -87,7 +87,7 @@ module _ (v q j : ℕ) (shape : v ≡ q * 2 ^ j) (few : q < 2 ^ 53) (high : v < 
   shape_rooted : Rooted v (root_units v)
   shape_rooted =
       let h = radicand (q * 2 ^ (53 - size q)) (size q + j + 12) * 2 ^ 44 in
-      rooted (q * 2 ^ (53 - size q)) (size q + j + 12) m_lo m_hi f_lo f_hi (whole_root h) (whole_root_lem h) v v_is
+      rooted (q * 2 ^ (53 - size q)) (size q + j + 12) m_lo m_hi f_lo f_hi (whole_root h) (whole_root_right h) v v_is
 
 pub root_rooted : (x : Float) → T (fits binary64 x) → (A : Above x) → Rooted A.v (root x)
 root_rooted x t A =

@@ -13,7 +13,7 @@ use Rattle.root.proofs.WholeRoot.{root_lt, root_ge}
 use Rattle.root.specs.Root.{whole_root, root_units, Rooted}
 use Rattle.float.specs.Units.{U, Is}
 use Rattle.root.specs.RootSteps.{WholeRoot}
-use Rattle.root.proofs.WholeRoot.{whole_root_lem}
+use Rattle.root.proofs.WholeRoot.{whole_root_right}
 
 -- ---- S / (2 g) to the nearest whole number, S the whole root of h * g * g, from s, the whole root of an even h
 odd_square : (h s q : ℕ) → h % 2 ≡ 0 → s ≡ 2 * q + 1 → s * s ≤ h → s * s + 1 ≤ h
@@ -335,7 +335,7 @@ module _ (m f : ℕ) (m_lo : 4503599627370496 ≤ m) (m_hi : m < 900719925474099
       root_is =
           let S = whole_root (v * 2 ^ 1076) in
           let g = 2 ^ expo f in
-          let R = whole_root_lem (v * 2 ^ 1076) in
+          let R = whole_root_right (v * 2 ^ 1076) in
           let E = even_h (radicand m f) in
           round_halves S (expo f) ((s + 1) / 2)
           (le_trans (le_of_eq (pow-add 2 53 (expo f))) (le_trans (mul-le-mul_right g s_lo) (cut_lo (v * 2 ^ 1076) (radicand m f * 2 ^ 44) g S s n_is E R r wide)))

@@ -1,10 +1,9 @@
 -- The root of what lies near 1: to first order half as far from 1, and what is left is far below half of the last place.
 use Rattle.std.proofs.Common.{◌≡◌, ℕ, zero, suc, ◌+◌, ◌-◌, ◌*◌, ◌/◌, ◌%◌, ◌^◌, ◌<◌, ◌≤◌, true, false, not, T, ◌⊎◌, sym, refl, ap, ◌∙◌, subst, inl, inr, true≢false, le_trans, le_of_eq, lt_of_lt_of_le, mul-le-mul, mul-pos, not-le_of_lt, arith, lit<, lit≤, pow_pos}
 use mathlib.Core.Bool.{false≢true}
-use lib.Ieee.{Float, nan, inf, fin, binary64, fits, to_bits, of_bits, nan_bits, is_nan, ne, up}
+use lib.Ieee.{Float, nan, inf, fin, binary64, fits, to_bits, of_bits, nan_bits, is_nan, up}
 use lib.Ieee.Fits.{down_pos}
 use Rattle.float.proofs.Units.{le_or_lt, one_number}
-use Rattle.float.proofs.Choices.{nan_of}
 use Rattle.root.proofs.RootParts.{expo}
 use Rattle.root.proofs.RootNearby.{near_answer}
 use Rattle.float.proofs.NotNan.{low_bits}
@@ -159,11 +158,8 @@ near_root x t l h =
     (scaled x t N 64 (of_bits binary64 ((b + 4607182418800017408) / 2))
     (λ v e. ap (λ (z : ℕ). of_bits binary64 z) D.is ∙ near_answer m (f + 64) (m_low b 64 low high (lit≤ tt)) (m_high b 64 low high (lit≤ tt)) (f_low b 64 low high (lit≤ tt)) (f_high b 64 low high (lit≤ tt)) D.q D.near v e))
 
-nan_itself : (x : Float) → is_nan x ≡ true → x ≡ root x
+pub nan_root : (x : Float) → is_nan x ≡ true → x ≡ root x
 unfolding root is_nan
-nan_itself nan h = refl
-nan_itself (inf s) h = absurd (false≢true h)
-nan_itself (fin s m e) h = absurd (false≢true h)
-
-pub nan_root : (x : Float) → ne x x ≡ true → x ≡ root x
-nan_root x h = nan_itself x (nan_of x h)
+nan_root nan h = refl
+nan_root (inf s) h = absurd (false≢true h)
+nan_root (fin s m e) h = absurd (false≢true h)

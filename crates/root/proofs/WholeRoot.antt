@@ -98,8 +98,8 @@ small_root h q l r = root_lt (h / 4) q (2 ^ 31) r (go h l)
     go : (h : ℕ) → h < 2 ^ 64 → h / 4 < 2 ^ 62
     go h l = omega arith
 
-pub small_square_lem : (q : ℕ) → q < 2 ^ 31 → (2 * q + 1) * (2 * q + 1) < 2 ^ 64
-small_square_lem q l = lt_of_le_of_lt (mul-le-mul (go q l) (go q l)) (lit< {m = 4294967295 * 4294967295} tt)
+pub small_square_fits : (q : ℕ) → q < 2 ^ 31 → (2 * q + 1) * (2 * q + 1) < 2 ^ 64
+small_square_fits q l = lt_of_le_of_lt (mul-le-mul (go q l) (go q l)) (lit< {m = 4294967295 * 4294967295} tt)
   where
     go : (q : ℕ) → q < 2 ^ 31 → 2 * q + 1 ≤ 4294967295
     go q l = omega arith
@@ -214,9 +214,9 @@ digits_root (suc k) n h = go (root_digits k (n / 4)) (digits_root k (n / 4) (qua
         test true x y = step_yes n q r (x tt)
         test false x y = step_no n q r (y tt)
 
-pub whole_root_lem : (n : ℕ) → WholeRoot n (whole_root n)
+pub whole_root_right : (n : ℕ) → WholeRoot n (whole_root n)
 unfolding whole_root
-whole_root_lem n = digits_root (size n) n (lt_of_lt_of_le (size-lt n) (more (2 ^ size n) (pow_pos (size n))))
+whole_root_right n = digits_root (size n) n (lt_of_lt_of_le (size-lt n) (more (2 ^ size n) (pow_pos (size n))))
   where
     more : (p : ℕ) → 0 < p → p ≤ p * p
     more p h = le_trans (le_of_eq (one p)) (mul-le-mul_right p h)
@@ -232,7 +232,7 @@ root_one n s t r q = le_antisymm (go s t (root_lt n s (t + 1) r q.above)) (go t 
     go a b h = omega arith
 
 pub whole_root_is : (n s : ℕ) → WholeRoot n s → whole_root n ≡ s
-whole_root_is n s r = root_one n (whole_root n) s (whole_root_lem n) r
+whole_root_is n s r = root_one n (whole_root n) s (whole_root_right n) r
 
 pub whole_root_mono : (m n : ℕ) → m ≤ n → whole_root m ≤ whole_root n
-whole_root_mono m n h = root_ge n (whole_root n) (whole_root m) (whole_root_lem n) (le_trans (whole_root_lem m).below h)
+whole_root_mono m n h = root_ge n (whole_root n) (whole_root m) (whole_root_right n) (le_trans (whole_root_right m).below h)

@@ -1,5 +1,5 @@
-// IEEE 754's square root of every f64 without a machine's: a guess by floats, confirmed exactly in 64 bits, with the root of a whole number behind it. Nothing is promised of the guess,
-// so any better one can take its place.
+// IEEE 754's square root of every f64 without a machine's: a guess by floats, confirmed exactly in 64 bits, with the
+// root of a whole number behind it. Nothing is promised of the guess, so any better one can take its place.
 ghost use Rattle.std.specs.Prelude.{◌≡◌, ◌+◌, ◌*◌, ◌%◌, ◌^◌, ◌<◌, ◌≤◌, true, from_bits};
 ghost use Rattle.std.specs.Float.Ieee.{lt};
 ghost use Rattle.std.specs.Float.{binary64};
@@ -140,7 +140,7 @@ fn normal_root(x: f64) -> f64
     let m = b % 4503599627370496 + 4503599627370496;
     let odd = (f + 1) % 2;
     let guess = estimate((b + 4503599627370496) % 9007199254740992 + 4607182418800017408);
-    if guess != guess {
+    if guess.is_nan() {
         return sure_root(x, 64);
     }
     let digits = std::num::wrapping_sub_u64(f64::to_bits(guess), 4602678819172646912);
@@ -160,7 +160,7 @@ fn small_root(x: f64) -> f64
         return x;
     }
     if x < 0.0 {
-        return 0.0 / 0.0;
+        return f64::NAN;
     }
     sure_root(x * 18014398509481984.0, 10)
 }
@@ -182,7 +182,7 @@ pub fn root(x: f64) -> f64
 pub fn quick_root(x: f64) -> f64
     ensures { result ≡ S.root x }
 {
-    if x != x {
+    if x.is_nan() {
         return x;
     }
     let b = f64::to_bits(x);

@@ -1,50 +1,40 @@
-// Numbers as text, for programs: 16 hexadecimal digits, in upper case; of a float its bits, or `nan`.
+// What programs share: a number as text, in 16 hexadecimal digits in upper case, of a float its bits, or `nan`; and
+// reading into room of a fixed size.
 #![tactic(auto)]
 
-ghost use Rattle.std.specs.Prelude.{◌<◌, ◌≡◌};
-ghost use Rattle.text.specs.Hexadecimal.{digit as digitOf, digits};
+mod reading;
 
-use std::io;
-use std::io::Write;
+ghost use Rattle.std.specs.Prelude.{Some};
+ghost use Rattle.text.specs.Hexadecimal.{digits, float_digits};
 
-pub fn write<W: Write>(out: &mut W, bytes: &[u8]) -> io::Result<()> {
-    out.write_all(bytes)
-}
+pub use reading::read_full;
+use std::fmt;
 
-// A blank and the float.
-pub fn write_float<W: Write>(out: &mut W, x: f64) -> io::Result<()> {
-    write(out, b" ")?;
-    if x != x {
-        return write(out, b"nan");
+#[derive(Clone, Copy)]
+pub struct Hexadecimal(pub u64);
+
+impl fmt::Display for Hexadecimal {
+    ghost output = { λ n. Some (digits 16 n.0) };
+
+    fn fmt<W: fmt::Write>(&self, f: &mut fmt::Formatter<W>) -> fmt::Result {
+        let n = self.0;
+        write!(f, "{n:016X}")
     }
-    let text = hexadecimal(f64::to_bits(x));
-    write(out, &text)
 }
 
-// A blank and the number.
-pub fn write_number<W: Write>(out: &mut W, n: u64) -> io::Result<()> {
-    write(out, b" ")?;
-    let text = hexadecimal(n);
-    write(out, &text)
-}
+// A float by its bits.
+#[derive(Clone, Copy)]
+pub struct Float(pub f64);
 
-fn hexadecimal(bits: u64) -> [u8; 16]
-    ensures { result ≡ digits 16 bits }
-{
-    let mut text = [0u8; 16];
-    let mut rest = bits;
-    let mut i: usize = 16;
-    while 0 < i {
-        i -= 1;
-        text[i] = digit(rest % 16);
-        rest /= 16;
+impl fmt::Display for Float {
+    ghost output = { λ x. Some (float_digits x.0) };
+
+    fn fmt<W: fmt::Write>(&self, f: &mut fmt::Formatter<W>) -> fmt::Result {
+        let x = self.0;
+        if x.is_nan() {
+            return write!(f, "nan");
+        }
+        let bits = Hexadecimal(x.to_bits());
+        write!(f, "{bits}")
     }
-    text
-}
-
-fn digit(d: u64) -> u8
-    requires { d < 16 }
-    ensures { result ≡ digitOf d }
-{
-    if d < 10 { 48 + d as u8 } else { 55 + d as u8 }
 }

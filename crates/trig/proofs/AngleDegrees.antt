@@ -7,6 +7,7 @@ use lib.Ieee.Bits.{of_bits-fits, is_true}
 use lib.Ieee.Fits.{mul-fits, neg-fits, cond-fits}
 use lib.Ieee.Positive.{positive}
 use lib.Ieee.Scale.{finite}
+use Rattle.std.specs.Prelude.{None, Option, Some}
 use Rattle.float.specs.Units.{U, Is}
 use Rattle.float.specs.Helpers.{negative, to_degrees}
 use Rattle.float.proofs.Monotone.{mul_mono}
@@ -19,8 +20,6 @@ use Rattle.trig.specs.Direction.{pi}
 use Rattle.trig.specs.Arctangent.{start_float, passes, grid_angle, grid_float, quarter_float, rise_float, lean_float, back_float, flat_float, ratio_float, right_float, left_float, pi_float, upper_float, level_float, angle_float, arctangent_of}
 use Rattle.trig.specs.Arccosine.{sine_of_cosine, cosine_range, arccosine_of}
 use Rattle.trig.specs.Waves.{most, served}
-use Rattle.trig.specs.declared.Answer.{Answer}
-use Rattle.trig.specs.declared.Answer.TheVariants.{Value, OutOfRange}
 use Rattle.trig.proofs.ArctangentLaws.{start_fits}
 use Rattle.trig.proofs.ArccosineLaws.{sine_fits}
 use Rattle.trig.proofs.Laws.{arctangent_least, arctangent_greatest, arccosine_is, arccosine_value, arccosine_least, arccosine_greatest}
@@ -77,28 +76,28 @@ angle_double y x f =
     cond-fits binary64 (eq y plus_zero) _ _ (level_double y x f)
     (cond-fits binary64 (lt y plus_zero) _ _ (neg-fits binary64 _ (upper_double (neg y) x)) (upper_double y x))
 
-abbrev DoubleAnswer : Answer → Type 0
-DoubleAnswer (Value r) = Double r
-DoubleAnswer OutOfRange = Unit {0}
+abbrev DoubleAnswer : Option Float → Type 0
+DoubleAnswer (Some r) = Double r
+DoubleAnswer None = Unit {0}
 
 answer_double : (y x : Float) → Double y → DoubleAnswer (arctangent_of y x)
 unfolding arctangent_of
 answer_double y x f = go (finite y) (finite x)
   where
-    go : (a b : Bool) → DoubleAnswer (cond (not a) OutOfRange (cond (not b) OutOfRange (Value (angle_float y x))))
+    go : (a b : Bool) → DoubleAnswer (cond (not a) None (cond (not b) None (Some (angle_float y x))))
     go true true = angle_double y x f
     go true false = tt
     go false b = tt
 
-pub arctangent_double : (y x r : Float) → T (fits binary64 y) → arctangent_of y x ≡ Value r → T (fits binary64 r)
+pub arctangent_double : (y x r : Float) → T (fits binary64 y) → arctangent_of y x ≡ Some r → T (fits binary64 r)
 arctangent_double y x r f e = subst DoubleAnswer e (answer_double y x f)
 
-pub arccosine_double : (c r : Float) → T (fits binary64 c) → arccosine_of c ≡ Value r → T (fits binary64 r)
+pub arccosine_double : (c r : Float) → T (fits binary64 c) → arccosine_of c ≡ Some r → T (fits binary64 r)
 arccosine_double c r f e = let h = (arccosine_value c r f e).0 in subst Double (same h) (angle_double (sine_of_cosine c) c (sine_fits c f h))
   where
-    given : Answer → Float
-    given (Value y) = y
-    given OutOfRange = plus_zero
+    given : Option Float → Float
+    given (Some y) = y
+    given None = plus_zero
 
     same : cosine_range c ≡ true → angle_float (sine_of_cosine c) c ≡ r
     same h = ap given (sym (arccosine_is c f h) ∙ e)
@@ -122,23 +121,23 @@ back_degrees : mul binary64 (neg pi) per_radian ≡ neg half_turn
 unfolding mul round of_bits neg
 back_degrees = refl
 
-per_radian_lem : T (positive per_radian)
+per_radian_positive : T (positive per_radian)
 unfolding of_bits
-per_radian_lem = tt
+per_radian_positive = tt
 
 pi_double : Double pi
 unfolding fits
 pi_double = tt
 
-pub degrees_up_to : (y x r : Float) → T (fits binary64 y) → T (fits binary64 x) → arctangent_of y x ≡ Value r → UpTo 180 (to_degrees r)
+pub degrees_up_to : (y x r : Float) → T (fits binary64 y) → T (fits binary64 x) → arctangent_of y x ≡ Some r → UpTo 180 (to_degrees r)
 unfolding to_degrees
 degrees_up_to y x r f g e =
     let d = arctangent_double y x r f e in
     let c = of_bits-fits binary64 0x404c_a5dc_1a63_c1f8 in
     double_up_to 180 half_turn half_turn_is (mul binary64 r per_radian) (mul-fits binary64 r per_radian)
     (parts_size_le (mul binary64 r per_radian) half_turn
-    (ap (λ (z : Float). le z (mul binary64 r per_radian)) (sym back_degrees) ∙ mul_mono (neg pi) r per_radian (neg-fits binary64 pi pi_double) d c per_radian_lem (is_true _ (arctangent_least y x r f g e)))
-    (ap (λ (z : Float). le (mul binary64 r per_radian) z) (sym pi_degrees) ∙ mul_mono r pi per_radian d pi_double c per_radian_lem (is_true _ (arctangent_greatest y x r f g e))))
+    (ap (λ (z : Float). le z (mul binary64 r per_radian)) (sym back_degrees) ∙ mul_mono (neg pi) r per_radian (neg-fits binary64 pi pi_double) d c per_radian_positive (is_true _ (arctangent_least y x r f g e)))
+    (ap (λ (z : Float). le (mul binary64 r per_radian) z) (sym pi_degrees) ∙ mul_mono r pi per_radian d pi_double c per_radian_positive (is_true _ (arctangent_greatest y x r f g e))))
 
 -- ---- radians: an arccosine, and what a sine and a cosine serve
 abbrev four : Float
@@ -156,7 +155,7 @@ four_zero : le (neg four) plus_zero ≡ true
 unfolding le lt eq neg of_bits
 four_zero = refl
 
-pub arccosine_up_to : (c r : Float) → T (fits binary64 c) → arccosine_of c ≡ Value r → UpTo 4 r
+pub arccosine_up_to : (c r : Float) → T (fits binary64 c) → arccosine_of c ≡ Some r → UpTo 4 r
 arccosine_up_to c r f e =
     double_up_to 4 four four_is r (arccosine_double c r f e)
     (parts_size_le r four (order.le_trans (neg four) plus_zero r four_zero (is_true _ (arccosine_least c r f e))) (order.le_trans r pi four (is_true _ (arccosine_greatest c r f e)) pi_four))

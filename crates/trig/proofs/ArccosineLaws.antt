@@ -3,6 +3,7 @@ use Rattle.std.proofs.Common.{◌≡◌, ℕ, zero, suc, ◌+◌, ◌-◌, ◌*�
 use lib.Ieee.{Float, nan, inf, fin, binary64, up, down, add, sub, mul, neg, of_bits, le, is_nan, fits}
 use lib.Ieee.Fits.{down_pos, mul-fits}
 use lib.Ieee.Order.{le_of_values}
+use Rattle.std.specs.Prelude.{None, Option, Some}
 use Rattle.float.specs.Units.{U, Is}
 use Rattle.float.proofs.Rounding.{W, U-is, U_pos, W-pos, Rounded, add_rounded, sub_rounded, mul_rounded}
 use Rattle.float.proofs.Units.{held}
@@ -17,8 +18,6 @@ use Rattle.float.specs.Helpers.{negative, clamp_unit}
 use Rattle.trig.specs.Direction.{pi}
 use Rattle.trig.specs.Arctangent.{angle_float, arctangent_of}
 use Rattle.trig.specs.Arccosine.{sine_of_cosine, cosine_range, arccosine_of, ArccosineValue, ArccosineAnswer}
-use Rattle.trig.specs.declared.Answer.{Answer}
-use Rattle.trig.specs.declared.Answer.TheVariants.{Value, OutOfRange}
 use Rattle.trig.proofs.Choices.{is_true, pick, drop, chosen, both_true}
 use Rattle.float.proofs.UpTo.{UpTo, one_is, up_to_neg, up_to_le}
 use Rattle.float.proofs.Bounded.{clamp_small}
@@ -149,7 +148,7 @@ module _ (c : Float) (f : T (fits binary64 c)) (h : cosine_range c ≡ true) whe
       let d = angle_right (sine_of_cosine c) c s.0 (range_finite c h) sine_fits f in
       record { least = from_zero (angle_float (sine_of_cosine c) c) d.least d.greatest (d.sign ∙ s.1); greatest = d.greatest; positive = d.sign ∙ s.1; direction = d }
 
-  pub arccosine_is : Value (angle_float (sine_of_cosine c) c) ≡ arctangent_of (sine_of_cosine c) c
+  pub arccosine_is : Some (angle_float (sine_of_cosine c) c) ≡ arctangent_of (sine_of_cosine c) c
   arccosine_is = arctangent_both (sine_of_cosine c) c (angle_float (sine_of_cosine c) c) (sine_sound c f h).0 refl (range_finite c h) refl refl
 
 pub arccosine_answer : (c : Float) → T (fits binary64 c) → ArccosineAnswer c (arccosine_of c)
@@ -157,11 +156,11 @@ unfolding arccosine_of
 arccosine_answer c f = chosen (ArccosineAnswer c) (cosine_range c) _ _ (λ h. subst (ArccosineAnswer c) (arccosine_is c f h) (h, arccosine_value c f h)) (λ h. h)
 
 -- ---- for the code
-pub arccosine_served : (c y : Float) (a : Answer) → cosine_range c ≡ true → y ≡ root (mul binary64 (sub binary64 one c) (add binary64 one c)) → a ≡ arctangent_of y c → a ≡ arccosine_of c
+pub arccosine_served : (c y : Float) (a : Option Float) → cosine_range c ≡ true → y ≡ root (mul binary64 (sub binary64 one c) (add binary64 one c)) → a ≡ arctangent_of y c → a ≡ arccosine_of c
 unfolding arccosine_of sine_of_cosine
 arccosine_served c y a h e g = g ∙ ap (λ (z : Float). arctangent_of z c) e ∙ pick (cosine_range c) _ _ h
 
-pub arccosine_refused : (c : Float) → cosine_range c ≡ false → OutOfRange ≡ arccosine_of c
+pub arccosine_refused : (c : Float) → cosine_range c ≡ false → None ≡ arccosine_of c
 unfolding arccosine_of
 arccosine_refused c h = drop (cosine_range c) _ _ h
 

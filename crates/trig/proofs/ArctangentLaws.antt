@@ -2,6 +2,7 @@
 use Rattle.std.proofs.Common.{◌≡◌, ℕ, ◌+◌, ◌-◌, ◌/◌, ◌≤◌, Bool, true, false, cond, not, ◌&&◌, T, ltb, ◌⊎◌, ℤ, sym, refl, ap, ◌∙◌, inl, inr, true≢false, ltb→lt, nltb→le}
 use lib.Ieee.{Float, fin, binary64, div, neg, of_bits, le, lt, eq, fits}
 use lib.Ieee.Fits.{add-fits, mul-fits, neg-fits}
+use Rattle.std.specs.Prelude.{None, Some}
 use Rattle.float.proofs.Order.{neg_neg}
 use Rattle.trig.specs.Kernel.{plus_zero, one}
 use Rattle.trig.specs.Reduction.{quarter_pi}
@@ -9,7 +10,6 @@ use lib.Ieee.Scale.{finite}
 use Rattle.float.specs.Helpers.{negative}
 use Rattle.trig.specs.Direction.{Direction}
 use Rattle.trig.specs.Arctangent.{arc, start_float, grid_float, passes, grid_angle, rise_float, lean_float, back_float, flat_float, ratio_float, right_float, left_float, pi_float, upper_float, level_float, angle_float, arctangent_of, ArctangentAnswer}
-use Rattle.trig.specs.declared.Answer.TheVariants.{Value, OutOfRange}
 use Rattle.trig.proofs.Choices.{not_true, is_true, split, pick, drop, chosen}
 use Rattle.trig.proofs.WaveError.{is_zero, Zero}
 use Rattle.trig.proofs.WaveSteps.{swap, lt_pos, lt_neg}
@@ -156,15 +156,15 @@ pub is_finite : (b : Bool) (y : Float) → b ≡ finite y → not b ≡ false �
 is_finite b y e h = sym e ∙ not_not b h
 
 module _ (y x : Float) {b : Bool} (B : finite y ≡ b) where
-  pub arctangent_y : not b ≡ true → OutOfRange ≡ arctangent_of y x
+  pub arctangent_y : not b ≡ true → None ≡ arctangent_of y x
   unfolding arctangent_of
   arctangent_y h = pick (not (finite y)) _ _ (ap not B ∙ h)
 
   module _ (k : not b ≡ false) {d : Bool} (D : finite x ≡ d) where
-    pub arctangent_x : not d ≡ true → OutOfRange ≡ arctangent_of y x
+    pub arctangent_x : not d ≡ true → None ≡ arctangent_of y x
     unfolding arctangent_of
     arctangent_x h = pick (not (finite x)) _ _ (ap not D ∙ h) ∙ drop (not (finite y)) _ _ (ap not B ∙ k)
 
-pub arctangent_both : (y x r : Float) {b d : Bool} → finite y ≡ b → not b ≡ false → finite x ≡ d → not d ≡ false → r ≡ angle_float y x → Value r ≡ arctangent_of y x
+pub arctangent_both : (y x r : Float) {b d : Bool} → finite y ≡ b → not b ≡ false → finite x ≡ d → not d ≡ false → r ≡ angle_float y x → Some r ≡ arctangent_of y x
 unfolding arctangent_of
-arctangent_both y x r B k D l e = ap Value e ∙ drop (not (finite x)) _ _ (ap not D ∙ l) ∙ drop (not (finite y)) _ _ (ap not B ∙ k)
+arctangent_both y x r B k D l e = ap Some e ∙ drop (not (finite x)) _ _ (ap not D ∙ l) ∙ drop (not (finite y)) _ _ (ap not B ∙ k)

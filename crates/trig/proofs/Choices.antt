@@ -1,5 +1,6 @@
 -- A test and what is chosen by it. Assumes nothing.
-use Rattle.std.proofs.Common.{◌≡◌, Bool, true, false, cond, not, T, ◌⊎◌, sym, refl, inl, inr, true≢false}
+use Rattle.std.proofs.Common.{ℕ, max, min, ltb, ap, arith, ◌≡◌, Bool, true, false, cond, not, T, ◌⊎◌, sym, refl, inl, inr, true≢false}
+use borrow.Author.Tests.{ltb-true, ltb-false}
 
 pub not_true : (b : Bool) → b ≡ false → T (not b)
 not_true true e = absurd (true≢false e)
@@ -25,6 +26,21 @@ drop false x y e = refl
 pub chosen : {A : Type 0} (P : A → Type 0) (b : Bool) (x y : A) → (b ≡ true → P x) → (b ≡ false → P y) → P (cond b x y)
 chosen P true x y f g = f refl
 chosen P false x y f g = g refl
+
+-- the larger and the smaller of two numbers, by a test
+pub by_larger : {A : Type 0} (f : ℕ → A) (x y : ℕ) → f (max x y) ≡ cond (ltb x y) (f y) (f x)
+by_larger {A} f x y = go (ltb x y) refl
+  where
+    go : (b : Bool) → ltb x y ≡ b → f (max x y) ≡ cond b (f y) (f x)
+    go true e = let h = ltb-true x y e in ap f (omega arith)
+    go false e = let h = ltb-false x y e in ap f (omega arith)
+
+pub by_smaller : {A : Type 0} (f : ℕ → A) (x y : ℕ) → f (min x y) ≡ cond (ltb y x) (f y) (f x)
+by_smaller {A} f x y = go (ltb y x) refl
+  where
+    go : (b : Bool) → ltb y x ≡ b → f (min x y) ≡ cond b (f y) (f x)
+    go true e = let h = ltb-true y x e in ap f (omega arith)
+    go false e = let h = ltb-false y x e in ap f (omega arith)
 
 -- two tests, one after the other
 pub both_true : (a b : Bool) → cond a b false ≡ true → (a ≡ true) × (b ≡ true)

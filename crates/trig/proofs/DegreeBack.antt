@@ -3,10 +3,10 @@
 use Rattle.std.proofs.Common.{◌≡◌, ℕ, Bool, true, false, cond, ◌⊎◌, ℤ, sym, refl, ap, ◌∙◌, inl, inr, true≢false}
 use lib.Ieee.{Float, nan, inf, fin, binary64, neg, add, of_bits, le, lt, eq}
 use lib.Ieee.Fits.{neg-fits}
+use Rattle.std.specs.Prelude.{None, Option, Some}
 use Rattle.float.proofs.Order.{neg_neg, neg_le}
+use Rattle.trig.specs.declared.Pair.{Pair}
 use Rattle.trig.specs.Kernel.{plus_zero, one}
-use Rattle.trig.specs.declared.PairAnswer.{PairAnswer}
-use Rattle.trig.specs.declared.PairAnswer.TheVariants.{Values, OutOfRange}
 use Rattle.trig.specs.Degrees.{plain, turnable, widest, opposite}
 use Rattle.trig.specs.DegreeSteps.{degree_float, sine_degrees, cosine_degrees, degree_pair}
 use Rattle.trig.proofs.Choices.{split, pick, drop}
@@ -96,9 +96,9 @@ pub pair_back : (x : Float) → degree_pair (neg x) ≡ opposite (degree_pair x)
 unfolding degree_pair
 pair_back x = ap (λ (b : Bool). answer b (neg x)) (turnable_back x) ∙ go (turnable x) (both_back x)
   where
-    answer : Bool → Float → PairAnswer
-    answer b y = cond b (Values (record { sine = sine_degrees y; cosine = cosine_degrees y })) OutOfRange
+    answer : Bool → Float → Option Pair
+    answer b y = cond b (Some (record { sine = sine_degrees y; cosine = cosine_degrees y })) None
 
     go : (b : Bool) → (b ≡ true → (sine_degrees (neg x) ≡ plain (neg (sine_degrees x))) × (cosine_degrees (neg x) ≡ cosine_degrees x)) → answer b (neg x) ≡ opposite (answer b x)
-    go true f = let e = f refl in ap (λ (y : Float). Values (record { sine = y; cosine = cosine_degrees (neg x) })) e.0 ∙ ap (λ (y : Float). Values (record { sine = plain (neg (sine_degrees x)); cosine = y })) e.1
+    go true f = let e = f refl in ap (λ (y : Float). Some (record { sine = y; cosine = cosine_degrees (neg x) })) e.0 ∙ ap (λ (y : Float). Some (record { sine = plain (neg (sine_degrees x)); cosine = y })) e.1
     go false f = refl

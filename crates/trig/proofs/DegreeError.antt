@@ -58,8 +58,8 @@ pub record Left (M D k : ℕ) : Type 0 where
 four_turns : (M D q N k : ℕ) → M ≡ q * (360 * D) + N → M + 45 * D < 90 * (k * D) + 90 * D → 8 * q * D < (2 * k + 1) * D
 four_turns M D q N k e h = omega arith
 
-half_turns_lem : (q k : ℕ) → 8 * q < 2 * k + 1 → 4 * q ≤ k
-half_turns_lem q k h = omega arith
+half_turns_at_most : (q k : ℕ) → 8 * q < 2 * k + 1 → 4 * q ≤ k
+half_turns_at_most q k h = omega arith
 
 left_low : (M D q N l : ℕ) → M ≡ q * (360 * D) + N → 90 * ((l + 4 * q) * D) ≤ M + 45 * D → 90 * (l * D) ≤ N + 45 * D
 left_low M D q N l e h = omega arith
@@ -69,7 +69,7 @@ left_high M D q N l e h = omega arith
 
 pub left_of : (M D k : ℕ) → 0 < D → NearestQuarter M D k → Left M D k
 left_of M D k P s = go (M / (360 * D)) (M % (360 * D)) (sym (div-add-mod' M (360 * D)))
-    (half_turns_lem (M / (360 * D)) k (lt_of_mul-lt-mul_right D (four_turns M D (M / (360 * D)) (M % (360 * D)) k (sym (div-add-mod' M (360 * D))) s.high))) refl
+    (half_turns_at_most (M / (360 * D)) k (lt_of_mul-lt-mul_right D (four_turns M D (M / (360 * D)) (M % (360 * D)) k (sym (div-add-mod' M (360 * D))) s.high))) refl
   where
     split : (q : ℕ) → 4 * q ≤ k → k ≡ (k - 4 * q) + 4 * q
     split q h = omega arith

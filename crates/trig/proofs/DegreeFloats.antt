@@ -277,12 +277,12 @@ module _ (j m : ℕ) (e : ℤ) (f : T (fits binary64 (fin false m e))) where
         (at (ltb count.x (quarter_turns count.x * quarter_turn)) (λ z. ltb→lt count.x (quarter_turns count.x * quarter_turn) (is_true _ z)) (λ z. nltb→le count.x (quarter_turns count.x * quarter_turn) (not_true _ z)))
 
 -- ---- above zero
-pub degree_float_lem : (j : ℕ) (a : Float) → UpToWidest a → T (fits binary64 a) → Near 50 (degree_float j a) (degree_wave false j (lib.Ieee.Positive.num a) (lib.Ieee.Positive.den a))
+pub degree_float_near : (j : ℕ) (a : Float) → UpToWidest a → T (fits binary64 a) → Near 50 (degree_float j a) (degree_wave false j (lib.Ieee.Positive.num a) (lib.Ieee.Positive.den a))
 unfolding degree_float degree_k degree_below degree_rest
-degree_float_lem j nan h f = absurd h
-degree_float_lem j (inf s) h f = absurd h
-degree_float_lem j (fin true m e) h f = absurd h
-degree_float_lem j (fin false m e) h f = go (lt (fin false m e) forty_five) (quarter_turns (in_units (fin false m e))) (ltb (in_units (fin false m e)) (quarter_turns (in_units (fin false m e)) * quarter_turn)) _ (small_near j m e f) (large_near j m e f h)
+degree_float_near j nan h f = absurd h
+degree_float_near j (inf s) h f = absurd h
+degree_float_near j (fin true m e) h f = absurd h
+degree_float_near j (fin false m e) h f = go (lt (fin false m e) forty_five) (quarter_turns (in_units (fin false m e))) (ltb (in_units (fin false m e)) (quarter_turns (in_units (fin false m e)) * quarter_turn)) _ (small_near j m e f) (large_near j m e f h)
   where
     go : (c : Bool) (k : ℕ) (b : Bool) (r : Float) → (c ≡ true → Near 50 (placed ((0 + j) % 4) false (sine_kernel (to_radians (fin false m e))) (cosine_kernel (to_radians (fin false m e)))) (degree_wave false j (m * up e) (down e)))
         → (c ≡ false → Near 50 (placed ((k + j) % 4) b (sine_kernel r) (cosine_kernel r)) (degree_wave false j (m * up e) (down e)))

@@ -3,9 +3,9 @@
 use Rattle.std.proofs.Common.{◌≡◌, true, false, T, ap, ◌∙◌}
 use lib.Ieee.{Float, binary64, neg, lt, eq, fits}
 use lib.Ieee.Fits.{neg-fits, cond-fits}
+use Rattle.std.specs.Prelude.{None, Some}
 use Rattle.trig.specs.Kernel.{plus_zero}
 use Rattle.trig.specs.declared.Pair.{Pair}
-use Rattle.trig.specs.declared.PairAnswer.TheVariants.{Values, OutOfRange}
 use Rattle.trig.specs.Degrees.{turnable, DegreesRight, TurnRight}
 use Rattle.trig.specs.DegreeSteps.{sine_degrees, cosine_degrees, degree_pair}
 use Rattle.trig.proofs.Choices.{pick, drop, chosen}
@@ -27,14 +27,14 @@ cosine_sign x = chosen (λ (y : Float). y ≡ neg plus_zero → ⊥) (eq x plus_
 
 -- ---- what is answered
 module _ (x : Float) where
-  pub pair_served : (p : Pair) → turnable x ≡ true → p.sine ≡ sine_degrees x → p.cosine ≡ cosine_degrees x → Values p ≡ degree_pair x
+  pub pair_served : (p : Pair) → turnable x ≡ true → p.sine ≡ sine_degrees x → p.cosine ≡ cosine_degrees x → Some p ≡ degree_pair x
   unfolding degree_pair
   pair_served p h s c =
-      ap (λ (y : Float). Values (record { sine = y; cosine = p.cosine })) s
-      ∙ ap (λ (y : Float). Values (record { sine = sine_degrees x; cosine = y })) c
+      ap (λ (y : Float). Some (record { sine = y; cosine = p.cosine })) s
+      ∙ ap (λ (y : Float). Some (record { sine = sine_degrees x; cosine = y })) c
       ∙ pick (turnable x) _ _ h
 
-  pub pair_refused : turnable x ≡ false → OutOfRange ≡ degree_pair x
+  pub pair_refused : turnable x ≡ false → None ≡ degree_pair x
   unfolding degree_pair
   pair_refused h = drop (turnable x) _ _ h
 

@@ -12,7 +12,7 @@ use Rattle.trig.specs.DegreeSteps.{degree_k, degree_below, degree_rest, degree_f
 use Rattle.trig.proofs.Choices.{is_true, chosen, both_true}
 use Rattle.trig.proofs.WaveError.{near_neg, wave_odd, wave_even, zero_of, is_zero, le_cross}
 use Rattle.trig.proofs.WaveSteps.{lt_pos, lt_neg}
-use Rattle.trig.proofs.DegreeFloats.{degree_float_lem}
+use Rattle.trig.proofs.DegreeFloats.{degree_float_near}
 use Rattle.trig.proofs.DegreeZeros.{degree_fits, zero_near, plain_near}
 
 -- ---- the sign may stand outside
@@ -48,7 +48,7 @@ module _ (x : Float) (f : T (fits binary64 x)) (h : turnable x ≡ true) where
 
 -- ---- the sine and the cosine of each x
 zero_wave : (j : ℕ) → Near 50 (degree_float j (fin false 0 (pos 0))) (degree_wave false j 0 1)
-zero_wave j = degree_float_lem j (fin false 0 (pos 0)) (lit≤ tt) (unfold fits in tt)
+zero_wave j = degree_float_near j (fin false 0 (pos 0)) (lit≤ tt) (unfold fits in tt)
 
 sine_of_zero : degree_float 0 (fin false 0 (pos 0)) ≡ fin false 0 (pos 0)
 unfolding degree_float degree_k degree_below degree_rest to_radians sine_kernel of_bits mul lib.Ieee.sub lib.Ieee.div lib.Ieee.of_int lt
@@ -91,7 +91,7 @@ below_sine (inf false) f l h = absurd (true≢false (sym h))
 below_sine (fin false m e) f l h = absurd (true≢false (sym h ∙ lt_pos m e))
 below_sine (fin true m e) f l h =
     subst (λ (g : Frac). Near 50 (neg (degree_float 0 (fin false m e))) g) (sym (degree_odd (m * up e) (down e)))
-    (near_neg 50 (degree_float 0 (fin false m e)) (degree_wave false 0 (m * up e) (down e)) (degree_float_lem 0 (fin false m e) (widest_below m e l) (neg-fits binary64 (fin true m e) f)))
+    (near_neg 50 (degree_float 0 (fin false m e)) (degree_wave false 0 (m * up e) (down e)) (degree_float_near 0 (fin false m e) (widest_below m e l) (neg-fits binary64 (fin true m e) f)))
 
 below_cosine : (x : Float) → T (fits binary64 x) → le (neg widest) x ≡ true → lt x plus_zero ≡ true → Near 50 (degree_float 1 (neg x)) (cosine_at x)
 unfolding neg lt of_bits
@@ -101,7 +101,7 @@ below_cosine (inf false) f l h = absurd (true≢false (sym h))
 below_cosine (fin false m e) f l h = absurd (true≢false (sym h ∙ lt_pos m e))
 below_cosine (fin true m e) f l h =
     subst (λ (g : Frac). Near 50 (degree_float 1 (fin false m e)) g) (sym (degree_even (m * up e) (down e)))
-    (degree_float_lem 1 (fin false m e) (widest_below m e l) (neg-fits binary64 (fin true m e) f))
+    (degree_float_near 1 (fin false m e) (widest_below m e l) (neg-fits binary64 (fin true m e) f))
 
 above_either : (j : ℕ) (x : Float) → T (fits binary64 x) → le x widest ≡ true → eq x plus_zero ≡ false → lt x plus_zero ≡ false → Near 50 (degree_float j x) (degree_wave false j (top x) (bot x)) × (Rattle.float.specs.Helpers.negative x ≡ false)
 unfolding lt of_bits
@@ -109,7 +109,7 @@ above_either j nan f l z h = absurd (true≢false (sym (unfold le in l)))
 above_either j (inf true) f l z h = absurd (true≢false h)
 above_either j (inf false) f l z h = absurd (true≢false (sym (unfold le in l)))
 above_either j (fin true m e) f l z h = absurd (true≢false (sym (lt_neg m e z) ∙ h))
-above_either j (fin false m e) f l z h = (degree_float_lem j (fin false m e) (widest_above m e l) f, refl)
+above_either j (fin false m e) f l z h = (degree_float_near j (fin false m e) (widest_above m e l) f, refl)
 
 above_sine : (x : Float) → T (fits binary64 x) → le x widest ≡ true → eq x plus_zero ≡ false → lt x plus_zero ≡ false → Near 50 (degree_float 0 x) (sine_at x)
 unfolding of_bits

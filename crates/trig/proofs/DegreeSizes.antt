@@ -5,16 +5,16 @@ use lib.Ieee.{Float, nan, inf, fin, binary64, up, down, neg, mul, of_int, of_bit
 use lib.Ieee.Fits.{down_pos, neg-fits, cond-fits, add-fits}
 use lib.Ieee.Bits.{of_bits-fits}
 use lib.Ieee.Scale.{finite}
+use Rattle.std.specs.Prelude.{None, Option, Some}
 use Rattle.float.specs.Units.{U, Is}
 use Rattle.float.specs.Helpers.{to_radians}
 use Rattle.float.proofs.Units.{is_finite}
 use Rattle.float.proofs.Rounding.{Within, W, U-is, U_pos, round_rounded}
+use Rattle.trig.specs.declared.Pair.{Pair}
 use Rattle.trig.specs.Kernel.{plus_zero, one, sine_kernel, cosine_kernel}
 use Rattle.trig.specs.Waves.{placed, Sized}
 use Rattle.trig.specs.Degrees.{plain, turnable}
 use Rattle.trig.specs.DegreeSteps.{quarter_turns, quarter_turn, in_units, forty_five, radians_of, beside, degree_k, degree_below, degree_rest, degree_float, sine_degrees, cosine_degrees, degree_pair}
-use Rattle.trig.specs.declared.PairAnswer.{PairAnswer}
-use Rattle.trig.specs.declared.PairAnswer.TheVariants.{Values, OutOfRange}
 use Rattle.trig.proofs.Choices.{chosen}
 use Rattle.trig.proofs.HornerForm.{num, den, num_le, den_pos}
 use Rattle.trig.proofs.KernelError.{sin_near, cos_near}
@@ -195,9 +195,9 @@ module _ (x : Float) (h : turnable x ≡ true) where
   unfolding cosine_degrees
   cosine_double = cond-fits binary64 (eq x plus_zero) _ _ (of_bits-fits binary64 0x3ff0_0000_0000_0000) (add-fits binary64 _ plus_zero)
 
-abbrev pub TidyPair : PairAnswer → Type 0
-TidyPair (Values p) = (T (fits binary64 p.sine) × Tidy p.sine) × (T (fits binary64 p.cosine) × Tidy p.cosine)
-TidyPair OutOfRange = Unit {0}
+abbrev pub TidyPair : Option Pair → Type 0
+TidyPair (Some p) = (T (fits binary64 p.sine) × Tidy p.sine) × (T (fits binary64 p.cosine) × Tidy p.cosine)
+TidyPair None = Unit {0}
 
 pub pair_tidy : (x : Float) → TidyPair (degree_pair x)
 unfolding degree_pair

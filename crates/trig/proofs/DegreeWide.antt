@@ -4,14 +4,14 @@ use Rattle.std.proofs.Common.{◌≡◌, ℕ, zero, suc, ◌+◌, ◌-◌, ◌*�
 use lib.Ieee.{Float, nan, inf, fin, binary64, up, down, neg, add, of_bits, le, lt, eq, fits}
 use lib.Ieee.Fits.{down_pos, neg-fits}
 use lib.Ieee.Positive.{num as top, den as bot}
+use Rattle.std.specs.Prelude.{None, Option, Some}
 use Rattle.float.specs.Units.{U, Is}
 use Rattle.float.proofs.Rounding.{W, U-is, U_pos, Rounded}
+use Rattle.trig.specs.declared.Pair.{Pair}
 use Rattle.trig.specs.Kernel.{plus_zero, one, cosine_kernel}
 use Rattle.trig.specs.Waves.{placed}
 use Rattle.trig.specs.Degrees.{plain, turnable}
 use Rattle.trig.specs.DegreeSteps.{degree_k, degree_below, degree_rest, degree_float, sine_degrees, cosine_degrees, degree_pair}
-use Rattle.trig.specs.declared.PairAnswer.{PairAnswer}
-use Rattle.trig.specs.declared.PairAnswer.TheVariants.{Values, OutOfRange}
 use Rattle.trig.proofs.Choices.{chosen}
 use Rattle.trig.proofs.HornerForm.{num, den, num_le, den_pos}
 use Rattle.trig.proofs.KernelError.{cos_near}
@@ -131,9 +131,9 @@ both_wide x h = go (eq x plus_zero) _ _ (λ z. sides x (lt x plus_zero) (signed_
     go false s c f = f refl
 
 -- ---- the law
-abbrev pub WidePair : PairAnswer → Type 0
-WidePair (Values p) = Wide p.sine ⊎ Wide p.cosine
-WidePair OutOfRange = Unit {0}
+abbrev pub WidePair : Option Pair → Type 0
+WidePair (Some p) = Wide p.sine ⊎ Wide p.cosine
+WidePair None = Unit {0}
 
 pub pair_wide : (x : Float) → WidePair (degree_pair x)
 unfolding degree_pair

@@ -441,9 +441,9 @@ zero_of s m e z t =
     ap (λ (d : ℤ). fin s 0 d) (sym (shape s e f)) ∙ ap (λ (n : ℕ). fin s n e) (sym z)
 
 -- ---- above zero
-wave_float_lem : (j : ℕ) (a : Float) → Tame a → T (fits binary64 a) → Near 50 (wave_float j a) (wave false j (top a) (bot a))
+wave_float_near : (j : ℕ) (a : Float) → Tame a → T (fits binary64 a) → Near 50 (wave_float j a) (wave false j (top a) (bot a))
 unfolding wave_float
-wave_float_lem j a h f = wave_near j a (turn_k a) (turn_below a) (turn_rest a) (turned_right a h f)
+wave_float_near j a h f = wave_near j a (turn_k a) (turn_below a) (turn_rest a) (turned_right a h f)
 
 sine_plain : Near 50 (fin false 0 (pos 0)) (wave false 0 0 1)
 sine_plain = subst (λ (y : Float). Near 50 y (wave false 0 0 1)) sin_of_zero (wave_near 0 (fin false 0 (pos 0)) 0 false (fin false 0 (pos 0)) at_zero)
@@ -496,26 +496,26 @@ unfolding neg
 below_sine nan h f = absurd h
 below_sine (inf s) h f = absurd h
 below_sine (fin false m e) h f = absurd h
-below_sine (fin true m e) h f = sine_flipped (wave_float 0 (fin false m e)) (m * up e) (down e) (wave_float_lem 0 (fin false m e) h (neg-fits binary64 (fin true m e) f))
+below_sine (fin true m e) h f = sine_flipped (wave_float 0 (fin false m e)) (m * up e) (down e) (wave_float_near 0 (fin false m e) h (neg-fits binary64 (fin true m e) f))
 
 below_cosine : (x : Float) → Tame (neg x) → T (fits binary64 x) → Near 50 (wave_float 1 (neg x)) (cosine x)
 unfolding neg
 below_cosine nan h f = absurd h
 below_cosine (inf s) h f = absurd h
 below_cosine (fin false m e) h f = absurd h
-below_cosine (fin true m e) h f = cosine_kept true (wave_float 1 (fin false m e)) (m * up e) (down e) (wave_float_lem 1 (fin false m e) h (neg-fits binary64 (fin true m e) f))
+below_cosine (fin true m e) h f = cosine_kept true (wave_float 1 (fin false m e)) (m * up e) (down e) (wave_float_near 1 (fin false m e) h (neg-fits binary64 (fin true m e) f))
 
 above_sine : (x : Float) → Tame x → T (fits binary64 x) → Near 50 (wave_float 0 x) (sine x)
 above_sine nan h f = absurd h
 above_sine (inf s) h f = absurd h
 above_sine (fin true m e) h f = absurd h
-above_sine (fin false m e) h f = wave_float_lem 0 (fin false m e) h f
+above_sine (fin false m e) h f = wave_float_near 0 (fin false m e) h f
 
 above_cosine : (x : Float) → Tame x → T (fits binary64 x) → Near 50 (wave_float 1 x) (cosine x)
 above_cosine nan h f = absurd h
 above_cosine (inf s) h f = absurd h
 above_cosine (fin true m e) h f = absurd h
-above_cosine (fin false m e) h f = wave_float_lem 1 (fin false m e) h f
+above_cosine (fin false m e) h f = wave_float_near 1 (fin false m e) h f
 
 pub sine_near : (x : Float) → T (fits binary64 x) → served x ≡ true → Near 50 (sine_float x) (sine x)
 unfolding sine_float

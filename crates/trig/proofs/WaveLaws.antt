@@ -2,16 +2,14 @@
 use Rattle.std.proofs.Common.{◌≡◌, ℕ, ◌*◌, Bool, true, false, cond, ◌&&◌, ◌||◌, T, eqb, sym, refl, ap, ◌∙◌, subst, true≢false, arith}
 use lib.Ieee.{Float, nan, inf, fin, binary64, up, down, neg, of_bits, le, eq, fits}
 use lib.Ieee.Positive.{num as top}
+use Rattle.std.specs.Prelude.{None, Option, Some}
 use Rattle.float.proofs.Order.{neg_le, neg_neg}
 use Rattle.trig.specs.Fraction.{Frac, Near}
 use Rattle.trig.specs.Angle.{sine, cosine}
 use Rattle.trig.specs.Kernel.{plus_zero}
 use lib.Ieee.Scale.{finite}
 use Rattle.trig.specs.Waves.{sine_float, cosine_float, most, served, sine_of, cosine_of, paired, SineValue, CosineValue, SineAnswer, CosineAnswer, PairRight}
-use Rattle.trig.specs.declared.Answer.{Answer}
-use Rattle.trig.specs.declared.Answer.TheVariants.{Value, OutOfRange}
 use Rattle.trig.specs.declared.Pair.{Pair}
-use Rattle.trig.specs.declared.PairAnswer.TheVariants.{Values, OutOfRange as NoPair}
 use Rattle.trig.proofs.Choices.{pick, drop, chosen}
 use Rattle.trig.proofs.WaveError.{sine_near, cosine_near, sine_sized, cosine_sized}
 use Rattle.trig.proofs.WaveSteps.{sine_is_zero, cosine_is_zero, sine_odd_finite, cosine_even_finite}
@@ -75,43 +73,43 @@ cosine_float_even (fin s m e) h = cosine_even_finite s m e
 
 -- ---- what is answered
 module _ (x : Float) where
-  pub sine_served : served x ≡ true → Value (sine_float x) ≡ sine_of x
+  pub sine_served : served x ≡ true → Some (sine_float x) ≡ sine_of x
   unfolding sine_of
   sine_served h = pick (served x) _ _ h
 
-  pub sine_refused : served x ≡ false → OutOfRange ≡ sine_of x
+  pub sine_refused : served x ≡ false → None ≡ sine_of x
   unfolding sine_of
   sine_refused h = drop (served x) _ _ h
 
-  pub cosine_served : served x ≡ true → Value (cosine_float x) ≡ cosine_of x
+  pub cosine_served : served x ≡ true → Some (cosine_float x) ≡ cosine_of x
   unfolding cosine_of
   cosine_served h = pick (served x) _ _ h
 
-  pub cosine_refused : served x ≡ false → OutOfRange ≡ cosine_of x
+  pub cosine_refused : served x ≡ false → None ≡ cosine_of x
   unfolding cosine_of
   cosine_refused h = drop (served x) _ _ h
 
-  pub pair_served : (p : Pair) → served x ≡ true → p.sine ≡ sine_float x → p.cosine ≡ cosine_float x → Values p ≡ paired (sine_of x) (cosine_of x)
+  pub pair_served : (p : Pair) → served x ≡ true → p.sine ≡ sine_float x → p.cosine ≡ cosine_float x → Some p ≡ paired (sine_of x) (cosine_of x)
   pair_served p h s c =
-      ap (λ (y : Float). Values (record { sine = y; cosine = p.cosine })) s
-      ∙ ap (λ (y : Float). Values (record { sine = sine_float x; cosine = y })) c
-      ∙ ap (λ (a : Answer). paired a (Value (cosine_float x))) (sine_served h)
-      ∙ ap (λ (a : Answer). paired (sine_of x) a) (cosine_served h)
+      ap (λ (y : Float). Some (record { sine = y; cosine = p.cosine })) s
+      ∙ ap (λ (y : Float). Some (record { sine = sine_float x; cosine = y })) c
+      ∙ ap (λ (a : Option Float). paired a (Some (cosine_float x))) (sine_served h)
+      ∙ ap (λ (a : Option Float). paired (sine_of x) a) (cosine_served h)
 
-  pub pair_refused : served x ≡ false → NoPair ≡ paired (sine_of x) (cosine_of x)
-  pair_refused h = ap (λ (a : Answer). paired a (cosine_of x)) (sine_refused h)
+  pub pair_refused : served x ≡ false → None ≡ paired (sine_of x) (cosine_of x)
+  pair_refused h = ap (λ (a : Option Float). paired a (cosine_of x)) (sine_refused h)
 
 -- ---- and is right
 module _ (x : Float) (f : T (fits binary64 x)) (h : served x ≡ true) where
   pub sine_value : SineValue x (sine_float x)
   sine_value =
       let n = sine_near x f h in
-      record { near = n; is_finite = near_finite 50 (sine_float x) (sine x) n; size = sine_sized x f h; zeros = λ z. sym (sine_is_zero x (zero_test x (served_finite x h) z)); odd = sym (sine_served (neg x) (served_even x ∙ h)) ∙ ap Value (sine_float_odd x h) }
+      record { near = n; is_finite = near_finite 50 (sine_float x) (sine x) n; size = sine_sized x f h; zeros = λ z. sym (sine_is_zero x (zero_test x (served_finite x h) z)); odd = sym (sine_served (neg x) (served_even x ∙ h)) ∙ ap Some (sine_float_odd x h) }
 
   pub cosine_value : CosineValue x (cosine_float x)
   cosine_value =
       let n = cosine_near x f h in
-      record { near = n; is_finite = near_finite 50 (cosine_float x) (cosine x) n; size = cosine_sized x f h; zeros = λ z. sym (cosine_is_zero x (zero_test x (served_finite x h) z)); even = sym (cosine_served (neg x) (served_even x ∙ h)) ∙ ap Value (cosine_float_even x h) }
+      record { near = n; is_finite = near_finite 50 (cosine_float x) (cosine x) n; size = cosine_sized x f h; zeros = λ z. sym (cosine_is_zero x (zero_test x (served_finite x h) z)); even = sym (cosine_served (neg x) (served_even x ∙ h)) ∙ ap Some (cosine_float_even x h) }
 
 module _ (x : Float) (f : T (fits binary64 x)) where
   pub sine_answer : SineAnswer x (sine_of x)
@@ -127,6 +125,6 @@ module _ (x : Float) (f : T (fits binary64 x)) where
   pair_answer = go (served x) (λ h. (h, sine_value x f h, cosine_value x f h)) (λ h. h)
     where
       go : (b : Bool) → (b ≡ true → (served x ≡ true) × SineValue x (sine_float x) × CosineValue x (cosine_float x)) → (b ≡ false → served x ≡ false)
-          → PairRight x (paired (cond b (Value (sine_float x)) OutOfRange) (cond b (Value (cosine_float x)) OutOfRange))
+          → PairRight x (paired (cond b (Some (sine_float x)) None) (cond b (Some (cosine_float x)) None))
       go true y n = y refl
       go false y n = n refl

@@ -1,6 +1,6 @@
 -- The arctangent as the code makes it: a polynomial's guess, a check of its residual in floats, and a bisection where the check fails. Definitions only.
 -- Angles from 0 to Pi / 4 are whole numbers i of 2 ^ -53, up to 7074237752028440. The other angles are reached from there in whole numbers of 2 ^ -51.
-use Rattle.std.specs.Prelude.{◌≡◌, ℕ, zero, suc, ◌+◌, ◌-◌, ◌/◌, ◌≤◌, Bool, true, false, cond, not, ◌&&◌, pos, negsuc, ◌==◌, from_bits, nat_lt, Float}
+use Rattle.std.specs.Prelude.{◌≡◌, ℕ, zero, suc, ◌+◌, ◌-◌, ◌/◌, ◌≤◌, Bool, true, false, cond, not, ◌&&◌, pos, negsuc, ◌==◌, from_bits, nat_lt, Float, None, Option, Some}
 use Rattle.std.specs.Float.{fin, binary64}
 use Rattle.std.specs.Float.Ieee.{add, sub, mul, div, neg, of_int, to_unsigned, le, lt, eq}
 use Rattle.trig.specs.Kernel.{plus_zero, one, sine_kernel, cosine_kernel}
@@ -8,8 +8,6 @@ use Rattle.trig.specs.Reduction.{quarter_pi}
 use Rattle.std.specs.Float.Ieee.Scale.{finite}
 use Rattle.float.specs.Helpers.{negative}
 use Rattle.trig.specs.Direction.{Direction}
-use Rattle.trig.specs.declared.Answer.{Answer}
-use Rattle.trig.specs.declared.Answer.TheVariants.{Value, OutOfRange}
 
 -- ---- the guess: nothing is promised of it
 -- a - b w + v (c - d w), for v = w w
@@ -140,10 +138,10 @@ unfolding level_float upper_float
 angle_float y x = cond (eq y plus_zero) (level_float y x) (cond (lt y plus_zero) (neg (upper_float (neg y) x)) (upper_float y x))
 
 -- ---- what `arctangent` answers, and what holds of it: an angle is given exactly where y and x are finite
-unfoldable pub arctangent_of : Float → Float → Answer
+unfoldable pub arctangent_of : Float → Float → Option Float
 unfolding angle_float
-arctangent_of y x = cond (not (finite y)) OutOfRange (cond (not (finite x)) OutOfRange (Value (angle_float y x)))
+arctangent_of y x = cond (not (finite y)) None (cond (not (finite x)) None (Some (angle_float y x)))
 
-abbrev pub ArctangentAnswer : Float → Float → Answer → Type 0
-ArctangentAnswer y x (Value r) = ((finite y && finite x) ≡ true) × Direction y x r
-ArctangentAnswer y x OutOfRange = (finite y && finite x) ≡ false
+abbrev pub ArctangentAnswer : Float → Float → Option Float → Type 0
+ArctangentAnswer y x (Some r) = ((finite y && finite x) ≡ true) × Direction y x r
+ArctangentAnswer y x None = (finite y && finite x) ≡ false

@@ -1,14 +1,13 @@
 -- The steps of the sine and the cosine of an angle in degrees, as the code takes them, and so the bits of the pair.
 -- `DegreesRight` (Degrees.antt) says what holds of them. Definitions only.
-use Rattle.std.specs.Prelude.{ℕ, ◌+◌, ◌-◌, ◌*◌, ◌/◌, ◌%◌, ◌≤◌, Bool, true, false, cond, pos, from_bits, nat_lt, Float}
+use Rattle.std.specs.Prelude.{ℕ, ◌+◌, ◌-◌, ◌*◌, ◌/◌, ◌%◌, ◌≤◌, Bool, true, false, cond, pos, from_bits, nat_lt, Float, None, Option, Some}
 use Rattle.std.specs.Float.{nan, inf, fin, binary64}
 use Rattle.std.specs.Float.Ieee.{up, down, mul, neg, of_int, to_unsigned, lt, eq}
 use Rattle.float.specs.Helpers.{to_radians}
+use Rattle.trig.specs.declared.Pair.{Pair}
 use Rattle.trig.specs.Kernel.{plus_zero, one, sine_kernel, cosine_kernel}
 use Rattle.trig.specs.Waves.{placed}
 use Rattle.trig.specs.Degrees.{plain, turnable}
-use Rattle.trig.specs.declared.PairAnswer.{PairAnswer}
-use Rattle.trig.specs.declared.PairAnswer.TheVariants.{Values, OutOfRange}
 
 -- ---- for an angle a from 0 to 45,000
 -- From 45 degrees on a double is a whole number of units of 2 ^ -47 degrees, so quarter turns are taken off exactly, in
@@ -65,8 +64,8 @@ unfoldable pub cosine_degrees : Float → Float
 cosine_degrees x = cond (eq x plus_zero) one (plain (cond (lt x plus_zero) (degree_float 1 (neg x)) (degree_float 1 x)))
 
 -- what `of_degrees` answers
-unfoldable pub degree_pair : Float → PairAnswer
-degree_pair x = cond (turnable x) (Values (record { sine = sine_degrees x; cosine = cosine_degrees x })) OutOfRange
+unfoldable pub degree_pair : Float → Option Pair
+degree_pair x = cond (turnable x) (Some (record { sine = sine_degrees x; cosine = cosine_degrees x })) None
 
 -- a is from 0 to 45,000
 abbrev pub UpToWidest : Float → Type 0

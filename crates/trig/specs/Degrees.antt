@@ -1,7 +1,7 @@
 -- The sine and the cosine of an angle in degrees, for turning. The angle is brought below 360 by the exact remainder, and
 -- the definition is document 01's at what is left times Pi over 180 (`sine_at`, `cosine_at`). `DegreesRight` is what
 -- `of_degrees` promises of its pair; `DegreeSteps` names that pair, step by step. Definitions only.
-use Rattle.std.specs.Prelude.{◌≡◌, ℕ, zero, suc, ◌*◌, ◌%◌, Bool, true, false, cond, from_bits, Float}
+use Rattle.std.specs.Prelude.{◌≡◌, ℕ, zero, suc, ◌*◌, ◌%◌, Bool, true, false, cond, from_bits, Float, None, Option, Some}
 use Rattle.std.specs.Float.{nan, inf, fin, binary64}
 use Rattle.std.specs.Float.Ieee.{up, down, add, neg, le}
 use Rattle.std.specs.Float.Ieee.Positive.{num as top, den as bot}
@@ -12,8 +12,6 @@ use Rattle.trig.specs.Angle.{pi_num, pi_den, wave, quarter}
 use Rattle.trig.specs.Kernel.{plus_zero, one}
 use Rattle.trig.specs.Waves.{Sized}
 use Rattle.trig.specs.declared.Pair.{Pair}
-use Rattle.trig.specs.declared.PairAnswer.{PairAnswer}
-use Rattle.trig.specs.declared.PairAnswer.TheVariants.{Values, OutOfRange}
 
 -- ---- the definition
 -- sin (x + j * 90 degrees), for x = a / d degrees, or -a / d where s is true. `a % (360 * d)` over d is the exact
@@ -54,9 +52,9 @@ square_pair (suc (suc zero)) = record { sine = plus_zero; cosine = neg one }
 square_pair (suc (suc (suc n))) = record { sine = neg one; cosine = plus_zero }
 
 -- the pair of the negated angle: the sine negated, a zero staying +0.0
-abbrev pub opposite : PairAnswer → PairAnswer
-opposite (Values p) = Values (record { sine = plain (neg p.sine); cosine = p.cosine })
-opposite OutOfRange = OutOfRange
+abbrev pub opposite : Option Pair → Option Pair
+opposite (Some p) = Some (record { sine = plain (neg p.sine); cosine = p.cosine })
+opposite None = None
 
 -- both within 2 ^ -50 of the definition, finite, at most 1 + 2 ^ -50 in size, and never -0.0; and at every multiple of
 -- 90 degrees, n of them above or below zero, exactly +0.0, 1 or -1
@@ -72,6 +70,6 @@ pub record DegreesRight (x : Float) (p : Pair) : Type 0 where
   pub right_angles : (n : ℕ) → finite x ≡ true → top x ≡ 90 * n * bot x → p ≡ square_pair (quarter (negative x) n % 4)
 
 -- out of range exactly where |x| ≤ 45,000 is false
-abbrev pub TurnRight : Float → PairAnswer → Type 0
-TurnRight x (Values p) = (turnable x ≡ true) × DegreesRight x p
-TurnRight x OutOfRange = turnable x ≡ false
+abbrev pub TurnRight : Float → Option Pair → Type 0
+TurnRight x (Some p) = (turnable x ≡ true) × DegreesRight x p
+TurnRight x None = turnable x ≡ false

@@ -1,17 +1,14 @@
 -- The sine and the cosine of a float as the code makes them, and what they promise. Definitions only.
-use Rattle.std.specs.Prelude.{◌≡◌, ℕ, zero, suc, ◌+◌, ◌*◌, ◌%◌, ◌^◌, ◌≤◌, Bool, true, false, cond, from_bits, Float}
+use Rattle.std.specs.Prelude.{◌≡◌, ℕ, zero, suc, ◌+◌, ◌*◌, ◌%◌, ◌^◌, ◌≤◌, Bool, true, false, cond, from_bits, Float, None, Option, Some}
 use Rattle.std.specs.Float.Ieee.{neg, eq, lt, le}
 use Rattle.std.specs.Float.{binary64}
 use Rattle.std.specs.Float.Ieee.Positive.{num as top, den as bot}
+use Rattle.trig.specs.declared.Pair.{Pair}
 use Rattle.trig.specs.Fraction.{Near}
 use Rattle.trig.specs.Angle.{sine, cosine}
 use Rattle.trig.specs.Kernel.{plus_zero, one, sine_kernel, cosine_kernel}
 use Rattle.trig.specs.Reduction.{turn_k, turn_below, turn_rest}
 use Rattle.std.specs.Float.Ieee.Scale.{finite}
-use Rattle.trig.specs.declared.Answer.{Answer}
-use Rattle.trig.specs.declared.Answer.TheVariants.{Value, OutOfRange}
-use Rattle.trig.specs.declared.PairAnswer.{PairAnswer}
-use Rattle.trig.specs.declared.PairAnswer.TheVariants.{Values, OutOfRange as NoPair}
 
 -- s, -s, c or -c by k modulo 4, as `place` in Angle.antt
 abbrev pub placed : ℕ → Bool → Float → Float → Float
@@ -42,19 +39,19 @@ unfoldable pub served : Float → Bool
 served x = cond (le x most) (le (neg most) x) false
 
 -- ---- what `sine`, `cosine` and `sine_cosine` answer
-unfoldable pub sine_of : Float → Answer
+unfoldable pub sine_of : Float → Option Float
 unfolding served sine_float
-sine_of x = cond (served x) (Value (sine_float x)) OutOfRange
+sine_of x = cond (served x) (Some (sine_float x)) None
 
-unfoldable pub cosine_of : Float → Answer
+unfoldable pub cosine_of : Float → Option Float
 unfolding served cosine_float
-cosine_of x = cond (served x) (Value (cosine_float x)) OutOfRange
+cosine_of x = cond (served x) (Some (cosine_float x)) None
 
 -- both, from their answers
-abbrev pub paired : Answer → Answer → PairAnswer
-paired (Value s) (Value c) = Values (record { sine = s; cosine = c })
-paired (Value s) OutOfRange = NoPair
-paired OutOfRange a = NoPair
+abbrev pub paired : Option Float → Option Float → Option Pair
+paired (Some s) (Some c) = Some (record { sine = s; cosine = c })
+paired (Some s) None = None
+paired None a = None
 
 -- ---- what holds of it
 -- |y| ≤ 1 + 2 ^ -50
@@ -67,24 +64,24 @@ pub record SineValue (x y : Float) : Type 0 where
   pub is_finite : finite y ≡ true
   pub size : Sized y
   pub zeros : top x ≡ 0 → y ≡ x
-  pub odd : sine_of (neg x) ≡ Value (neg y)
+  pub odd : sine_of (neg x) ≡ Some (neg y)
 
 pub record CosineValue (x y : Float) : Type 0 where
   pub near : Near 50 y (cosine x)
   pub is_finite : finite y ≡ true
   pub size : Sized y
   pub zeros : top x ≡ 0 → y ≡ one
-  pub even : cosine_of (neg x) ≡ Value y
+  pub even : cosine_of (neg x) ≡ Some y
 
 -- out of range exactly where |x| ≤ 800 is false
-abbrev pub SineAnswer : Float → Answer → Type 0
-SineAnswer x (Value y) = (served x ≡ true) × SineValue x y
-SineAnswer x OutOfRange = served x ≡ false
+abbrev pub SineAnswer : Float → Option Float → Type 0
+SineAnswer x (Some y) = (served x ≡ true) × SineValue x y
+SineAnswer x None = served x ≡ false
 
-abbrev pub CosineAnswer : Float → Answer → Type 0
-CosineAnswer x (Value y) = (served x ≡ true) × CosineValue x y
-CosineAnswer x OutOfRange = served x ≡ false
+abbrev pub CosineAnswer : Float → Option Float → Type 0
+CosineAnswer x (Some y) = (served x ≡ true) × CosineValue x y
+CosineAnswer x None = served x ≡ false
 
-abbrev pub PairRight : Float → PairAnswer → Type 0
-PairRight x (Values p) = (served x ≡ true) × SineValue x p.sine × CosineValue x p.cosine
-PairRight x NoPair = served x ≡ false
+abbrev pub PairRight : Float → Option Pair → Type 0
+PairRight x (Some p) = (served x ≡ true) × SineValue x p.sine × CosineValue x p.cosine
+PairRight x None = served x ≡ false

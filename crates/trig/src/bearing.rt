@@ -30,17 +30,15 @@ fn quarter(z: u64) -> f64
     (z as f64) * 4.440892098500626e-16
 }
 
+// Three functions, and not one with three numbers and a flag: `rise`, `lean` and `back` differ in sign, constant and
+// bound.
+
 // pi / 2 less i * 2^-53: past pi / 4.
 fn rise(i: u64) -> f64
     requires { i ≤ 7074237752028440 }
     ensures { result ≡ Arctangent.rise_float i }
 {
-    let z = (14148475504056880 - i) / 4;
-    if z < 1768559438007111 {
-        quarter(1768559438007111)
-    } else {
-        quarter(z)
-    }
+    quarter(((14148475504056880 - i) / 4).max(1768559438007111))
 }
 
 // pi / 2 and i * 2^-53: not past 3 pi / 4.
@@ -48,12 +46,7 @@ fn lean(i: u64) -> f64
     requires { i ≤ 7074237752028440 }
     ensures { result ≡ Arctangent.lean_float i }
 {
-    let z = (14148475504056880 + i) / 4 + 1;
-    if 5305678314021330 < z {
-        quarter(5305678314021330)
-    } else {
-        quarter(z)
-    }
+    quarter(((14148475504056880 + i) / 4 + 1).min(5305678314021330))
 }
 
 // pi less i * 2^-53: past 3 pi / 4.
@@ -61,12 +54,7 @@ fn back(i: u64) -> f64
     requires { i ≤ 7074237752028440 }
     ensures { result ≡ Arctangent.back_float i }
 {
-    let z = (28296951008113761 - i) / 4;
-    if z < 5305678314021331 {
-        quarter(5305678314021331)
-    } else {
-        quarter(z)
-    }
+    quarter(((28296951008113761 - i) / 4).max(5305678314021331))
 }
 
 // The angle of the tangent t, on the grid.

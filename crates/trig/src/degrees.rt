@@ -13,10 +13,11 @@ const QUARTER_TURN: u64 = 12666373951979520;
 const EIGHTH_TURN: u64 = 6333186975989760;
 
 // Whether |x| <= 45,000, and x so has a turn.
+#[tactic(auto, unfolding(crate::specs::Degrees::turnable))]
 pub fn turnable(x: f64) -> bool
     ensures { result ≡ Degrees.turnable x }
 {
-    if x <= 45000.0 { -45000.0 <= x } else { false }
+    x <= 45000.0 && -45000.0 <= x
 }
 
 // The whole number nearest to x / 90 degrees, a half up, for x in units of 2^-47 degrees.

@@ -22,100 +22,89 @@ use crate::waves::{cosine_value, pair_value, sine_value};
 pub use waves::served;
 
 #[derive(Clone, Copy)]
-pub enum Answer {
-    Value(f64),
-    OutOfRange,
-}
-
-#[derive(Clone, Copy)]
 pub struct Pair {
     pub sine: f64,
     pub cosine: f64,
 }
 
-#[derive(Clone, Copy)]
-pub enum PairAnswer {
-    Values(Pair),
-    OutOfRange,
-}
-
 // The sine of x, for |x| <= 800.
-pub fn sine(x: f64) -> Answer
+pub fn sine(x: f64) -> Option<f64>
     ensures name { result ≡ Waves.sine_of x }
     ensures right { Waves.SineAnswer x result }
 {
     if served(x) {
         let y = sine_value(x);
-        Answer::Value(y)
+        Some(y)
     } else {
-        Answer::OutOfRange
+        None
     }
 }
 
 // The cosine of x, for |x| <= 800.
-pub fn cosine(x: f64) -> Answer
+pub fn cosine(x: f64) -> Option<f64>
     ensures name { result ≡ Waves.cosine_of x }
     ensures right { Waves.CosineAnswer x result }
 {
     if served(x) {
         let y = cosine_value(x);
-        Answer::Value(y)
+        Some(y)
     } else {
-        Answer::OutOfRange
+        None
     }
 }
 
 // Both, from one reduction, and bit for bit what `sine` and `cosine` answer.
-pub fn sine_cosine(x: f64) -> PairAnswer
+pub fn sine_cosine(x: f64) -> Option<Pair>
     ensures name { result ≡ Waves.paired (Waves.sine_of x) (Waves.cosine_of x) }
     ensures right { Waves.PairRight x result }
 {
     if served(x) {
         let p = pair_value(x);
-        PairAnswer::Values(p)
+        Some(p)
     } else {
-        PairAnswer::OutOfRange
+        None
     }
 }
 
 // The sine and the cosine of an angle in degrees, for |x| <= 45,000: exactly +0.0, 1 or -1 at multiples of 90. Turning
 // takes these; `sine_cosine` is for angles in radians.
-pub fn of_degrees(x: f64) -> PairAnswer
+pub fn of_degrees(x: f64) -> Option<Pair>
     ensures name { result ≡ DegreeSteps.degree_pair x }
     ensures right { Degrees.TurnRight x result }
 {
     if turnable(x) {
         let p = pair_in_degrees(x);
-        PairAnswer::Values(p)
+        Some(p)
     } else {
-        PairAnswer::OutOfRange
+        None
     }
 }
 
 // The angle of the point (x, y): atan2.
-pub fn arctangent(y: f64, x: f64) -> Answer
+pub fn arctangent(y: f64, x: f64) -> Option<f64>
     ensures name { result ≡ Arctangent.arctangent_of y x }
     ensures right { Arctangent.ArctangentAnswer y x result }
 {
     if !float::finite(y) {
-        return Answer::OutOfRange;
+        return None;
     }
     if !float::finite(x) {
-        return Answer::OutOfRange;
+        return None;
     }
     let r = angle(y, x);
-    Answer::Value(r)
+    Some(r)
 }
 
 // Whether c is from -1 to 1, and so has an arccosine.
+#[tactic(auto, unfolding(crate::specs::Arccosine::cosine_range))]
 pub fn cosine_range(c: f64) -> bool
     ensures { result ≡ Arccosine.cosine_range c }
 {
-    if c <= 1.0 { -1.0 <= c } else { false }
+    c <= 1.0 && -1.0 <= c
 }
 
 // The angle from 0 to pi whose cosine is c.
-pub fn arccosine(c: f64) -> Answer
+pub fn arccosine(c: f64) -> Option<f64>
     ensures name { result ≡ Arccosine.arccosine_of c }
     ensures right { Arccosine.ArccosineAnswer c result }
 {
@@ -123,6 +112,6 @@ pub fn arccosine(c: f64) -> Answer
         let y = root::root((1.0 - c) * (1.0 + c));
         arctangent(y, c)
     } else {
-        Answer::OutOfRange
+        None
     }
 }

@@ -1,4 +1,5 @@
-// The reduction of an angle by the nearest multiple of Pi / 2: exact, in whole numbers, and one rounding at the end (specs/Reduction.antt).
+// The reduction of an angle by the nearest multiple of Pi / 2: exact, in whole numbers, and one rounding at the end
+// (specs/Reduction.antt).
 ghost use Rattle.std.specs.Prelude.{◌≡◌, ℕ, ◌*◌, ◌^◌, ◌≤◌};
 ghost use Rattle.trig.specs.Reduction as Reduction;
 

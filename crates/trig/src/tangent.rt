@@ -1,4 +1,5 @@
-// The angle of a tangent from 0 to 1, in whole numbers of 2^-53: a guess, a check of its residual, and a bisection where that fails (specs/Arctangent.antt).
+// The angle of a tangent from 0 to 1, in whole numbers of 2^-53: a guess, a check of its residual, and a bisection
+// where that fails (specs/Arctangent.antt).
 ghost use Rattle.std.specs.Prelude.{◌≡◌, ℕ, ◌<◌, ◌≤◌};
 ghost use Rattle.trig.specs.Arctangent as Arctangent;
 

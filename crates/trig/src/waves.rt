@@ -9,10 +9,11 @@ use crate::reduction::turned;
 use crate::series::{cosine_kernel, sine_kernel};
 
 // Whether |x| <= 800, and x so has a sine and a cosine.
+#[tactic(auto, unfolding(crate::specs::Waves::served))]
 pub fn served(x: f64) -> bool
     ensures { result ≡ Waves.served x }
 {
-    if x <= 800.0 { -800.0 <= x } else { false }
+    x <= 800.0 && -800.0 <= x
 }
 
 // y, or -y.
@@ -59,6 +60,7 @@ pub fn waves(k: u64, below: bool, r: f64) -> Pair
     Pair { sine, cosine }
 }
 
+// Not `pair_value(x).sine`, nor is the cosine below its other half: that would compute both sums for one of them.
 pub fn sine_value(x: f64) -> f64
     requires { Waves.served x ≡ true }
     ensures { result ≡ Waves.sine_float x }

@@ -3,3 +3,4 @@ pub mod Stored
 pub mod Cached
 pub mod Running
 pub mod Space
+pub mod Scanning

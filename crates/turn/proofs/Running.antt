@@ -9,19 +9,18 @@ use lib.Arith.{lt_of_le-ne}
 use lib.Dec.{eqb}
 use lib.ListN.{length, get_or, set}
 use lib.Ieee.{Float}
+use Rattle.std.specs.Prelude.{None, Some, Err, Ok}
 use Rattle.halving.specs.Halving as Halving
 use Rattle.halving.specs.Halving.{halve}
 use Rattle.halving.proofs.Machine.{State, turn_many, turn_full, turn_insert, turn_place, to_do, falls_inserting, falls_placing}
 use Rattle.chain.specs.declared.Prepared.{Prepared}
+use Rattle.turn.specs.declared.Stop.{Stop}
 use Rattle.turn.specs.Items.{item_at, items_in, poses_with, joints_with}
 use Rattle.middle.specs.Testing.{divides, midpoint}
-use Rattle.turn.specs.Turning.{most, axis_at, given_next, axis_right, end_after, past_given, past_inserted, past, before, with_midpoint, inserting, if_inserted, verdict_at, turn, poses_after, joints_after, absent, reached, Cached}
+use Rattle.turn.specs.Turning.{most, axis_at, given_next, axis_right, end_after, past_given, past_inserted, past, before, with_midpoint, inserting, if_inserted, verdict_at, turn, poses_after, joints_after, absent, reached, Cached, Turn}
 use Rattle.middle.specs.declared.Item.{Item}
 use Rattle.turn.specs.declared.Machine.{Machine}
 use Rattle.middle.specs.declared.Tolerances.{Tolerances}
-use Rattle.turn.specs.declared.Turn.{Turn}
-use Rattle.turn.specs.declared.Turn.TheVariants.{On, TooMany, NoSpace}
-use Rattle.middle.specs.declared.Verdict.TheVariants.{Keep, Divide}
 use Rattle.middle.proofs.Verdicts.{verdict_is}
 use Rattle.turn.proofs.Stored.{item_is, item_set, poses_with_long, joints_with_long}
 use Rattle.turn.proofs.Cached.{right_given, right_inserted, placed_given, placed_inserted, put_before}
@@ -46,9 +45,9 @@ module _ (p : Prepared) (tol : Tolerances) (space : ℕ) (g : List Item) (had : 
 
   -- what a turn leaves behind
   abbrev pub Turned : Machine → List Float → List Float → Turn → Type 0
-  Turned m poses joints (On next) = Here poses joints next × (work next < work m)
-  Turned m poses joints (TooMany n) = whole_halving ≡ Halving.TooMany n
-  Turned m poses joints (NoSpace n) = whole_halving ≡ Halving.NoSpace n
+  Turned m poses joints (Ok next) = Here poses joints next × (work next < work m)
+  Turned m poses joints (Err (Stop.TooMany n)) = whole_halving ≡ Halving.TooMany n
+  Turned m poses joints (Err (Stop.NoSpace n)) = whole_halving ≡ Halving.NoSpace n
 
   module _ {poses joints : List Float} {m : Machine} (σ : Here poses joints m) (more : m.waiting < space) where
     left_there : item_at poses joints (m.placed - 1) ≡ get_or (items_in space poses joints) (m.placed - 1) absent
@@ -69,7 +68,7 @@ module _ (p : Prepared) (tol : Tolerances) (space : ℕ) (g : List Item) (had : 
 
     verdict_here : verdict_at p tol space m poses joints
         ≡ cond (divides p tol (item_at poses joints (m.placed - 1)) (item_at poses joints m.waiting))
-        (Divide (midpoint p (item_at poses joints (m.placed - 1)) (item_at poses joints m.waiting))) Keep
+        (Some (midpoint p (item_at poses joints (m.placed - 1)) (item_at poses joints m.waiting))) None
     unfolding verdict_at
     verdict_here =
         let l : m.left_axis ≡ reached p (item_at poses joints (m.placed - 1)) = σ.cached.at_left ∙ ap (reached p) (sym left_there) in

@@ -5,42 +5,39 @@ use mathlib.Core.Bool.{true}
 use mathlib.Core.List.{List}
 use borrow.Author.Tests.{eqb-true}
 use lib.Ieee.{Float}
+use Rattle.std.specs.Prelude.{None, Option, Some, Ok}
 use Rattle.geometry.specs.declared.Vec3.{Vec3}
 use Rattle.chain.specs.declared.Prepared.{Prepared}
 use Rattle.turn.specs.Items.{item_at, poses_with, joints_with}
 use Rattle.middle.specs.Testing.{verdict_with}
-use Rattle.turn.specs.Turning.{given_next, axis_right, past, before, inserting, if_inserted, verdict_at, turn, poses_after, joints_after}
+use Rattle.turn.specs.Turning.{given_next, axis_right, past, before, inserting, if_inserted, verdict_at, turn, poses_after, joints_after, Turn}
 use Rattle.middle.specs.declared.Item.{Item}
 use Rattle.turn.specs.declared.Machine.{Machine}
 use Rattle.middle.specs.declared.Tolerances.{Tolerances}
-use Rattle.turn.specs.declared.Turn.{Turn}
-use Rattle.turn.specs.declared.Turn.TheVariants.{On}
-use Rattle.middle.specs.declared.Verdict.{Verdict}
-use Rattle.middle.specs.declared.Verdict.TheVariants.{Keep, Divide}
 
 pub given_there : (space : ℕ) (m : Machine) → given_next space m ≡ true → space - m.waiting ≡ m.given
 unfolding given_next
 given_there space m e = eqb-true _ _ e
 
-module _ (p : Prepared) (tol : Tolerances) (space : ℕ) (m : Machine) (poses joints : List Float) {left right : Item} {axis : Vec3} {said : Verdict}
+module _ (p : Prepared) (tol : Tolerances) (space : ℕ) (m : Machine) (poses joints : List Float) {left right : Item} {axis : Vec3} {said : Option Item}
     (is-left : left ≡ item_at poses joints (m.placed - 1)) (is_right : right ≡ item_at poses joints m.waiting) (is-axis : axis ≡ axis_right space m right)
     (is_said : said ≡ verdict_with p tol left right m.left_axis axis) where
   said_is : said ≡ verdict_at p tol space m poses joints
   unfolding verdict_at
   said_is = rw (← is_right, ← is-axis, ← is-left) is_said
 
-  pub turned_keep : {next : Machine} {poses' joints' : List Float} → said ≡ Keep → next ≡ past p space m axis joints
+  pub turned_keep : {next : Machine} {poses' joints' : List Float} → said ≡ None → next ≡ past p space m axis joints
       → poses' ≡ poses_with right poses m.placed → joints' ≡ joints_with right joints m.placed
-      → (On next ≡ turn p tol space m poses joints) × ((poses' ≡ poses_after p tol space m poses joints) × (joints' ≡ joints_after p tol space m poses joints))
+      → (Ok next ≡ turn p tol space m poses joints) × ((poses' ≡ poses_after p tol space m poses joints) × (joints' ≡ joints_after p tol space m poses joints))
   unfolding turn poses_after joints_after
   turned_keep e f g h =
-      let v : verdict_at p tol space m poses joints ≡ Keep = sym said_is ∙ e in
+      let v : verdict_at p tol space m poses joints ≡ None = sym said_is ∙ e in
       (rw (v, ← is_right, ← is-axis, f), (rw (v, ← is_right) g, rw (v, ← is_right) h))
 
-  pub turned_divide : {middle : Item} {r : Turn} {poses' joints' : List Float} → said ≡ Divide middle → r ≡ inserting m
+  pub turned_divide : {middle : Item} {r : Turn} {poses' joints' : List Float} → said ≡ Some middle → r ≡ inserting m
       → poses' ≡ if_inserted m poses (poses_with middle poses (before m)) → joints' ≡ if_inserted m joints (joints_with middle joints (before m))
       → (r ≡ turn p tol space m poses joints) × ((poses' ≡ poses_after p tol space m poses joints) × (joints' ≡ joints_after p tol space m poses joints))
   unfolding turn poses_after joints_after
   turned_divide {middle} e f g h =
-      let v : verdict_at p tol space m poses joints ≡ Divide middle = sym said_is ∙ e in
+      let v : verdict_at p tol space m poses joints ≡ Some middle = sym said_is ∙ e in
       (rw v f, (rw v g, rw v h))

@@ -1,17 +1,18 @@
 -- One turn of the machine that halves in lent outputs, by its numbers and two axes at hand: the last placed item is tested against the first that waits, which is then placed, or their midpoint is put before it.
-use Rattle.std.specs.Prelude.{ℕ, ◌+◌, ◌-◌, ◌*◌, ◌≤◌, ◌<◌, ◌≡◌, Bool, cond, List, [], eqb, leb, get_or, Float}
+use Rattle.std.specs.Prelude.{ℕ, ◌+◌, ◌-◌, ◌*◌, ◌≤◌, ◌<◌, ◌≡◌, Bool, cond, List, [], eqb, leb, get_or, Float, None, Option, Some, Err, Ok, Result}
 use Rattle.geometry.specs.declared.Vec3.{Vec3}
 use Rattle.chain.specs.declared.Prepared.{Prepared}
 use Rattle.path.specs.Solving.{pose_from}
+use Rattle.turn.specs.declared.Stop.{Stop}
 use Rattle.turn.specs.Items.{joints_from, item, item_at, joints_in, poses_with, joints_with}
 use Rattle.middle.specs.Testing.{pose_of, verdict_with}
 use Rattle.middle.specs.declared.Item.{Item}
 use Rattle.turn.specs.declared.Machine.{Machine}
 use Rattle.middle.specs.declared.Tolerances.{Tolerances}
-use Rattle.turn.specs.declared.Turn.{Turn}
-use Rattle.turn.specs.declared.Turn.TheVariants.{On, TooMany, NoSpace}
-use Rattle.middle.specs.declared.Verdict.{Verdict}
-use Rattle.middle.specs.declared.Verdict.TheVariants.{Keep, Divide}
+
+-- what one test comes to: the machine goes on, or stops before its time
+abbrev pub Turn : Type 0
+Turn = Result Machine Stop
 
 -- the most that are inserted
 abbrev pub most : ℕ
@@ -71,26 +72,26 @@ with_midpoint m = record {
 }
 
 unfoldable pub inserting : Machine → Turn
-inserting m = cond (eqb m.inserted most) (TooMany m.inserted) (cond (eqb m.placed m.waiting) (NoSpace m.inserted) (On (with_midpoint m)))
+inserting m = cond (eqb m.inserted most) (Err (Stop.TooMany m.inserted)) (cond (eqb m.placed m.waiting) (Err (Stop.NoSpace m.inserted)) (Ok (with_midpoint m)))
 
 -- a list after it, which becomes `stored` where the midpoint has its place
 unfoldable pub if_inserted : Machine → List Float → List Float → List Float
 if_inserted m l stored = cond (eqb m.inserted most) l (cond (eqb m.placed m.waiting) l stored)
 
 -- ---- the turn
-abbrev pub turn_by : Prepared → ℕ → Machine → Vec3 → List Float → Verdict → Turn
-turn_by p space m axis joints Keep = On (past p space m axis joints)
-turn_by p space m axis joints (Divide middle) = inserting m
+abbrev pub turn_by : Prepared → ℕ → Machine → Vec3 → List Float → Option Item → Turn
+turn_by p space m axis joints None = Ok (past p space m axis joints)
+turn_by p space m axis joints (Some middle) = inserting m
 
-abbrev pub poses_by : Machine → Item → List Float → Verdict → List Float
-poses_by m right poses Keep = poses_with right poses m.placed
-poses_by m right poses (Divide middle) = if_inserted m poses (poses_with middle poses (before m))
+abbrev pub poses_by : Machine → Item → List Float → Option Item → List Float
+poses_by m right poses None = poses_with right poses m.placed
+poses_by m right poses (Some middle) = if_inserted m poses (poses_with middle poses (before m))
 
-abbrev pub joints_by : Machine → Item → List Float → Verdict → List Float
-joints_by m right joints Keep = joints_with right joints m.placed
-joints_by m right joints (Divide middle) = if_inserted m joints (joints_with middle joints (before m))
+abbrev pub joints_by : Machine → Item → List Float → Option Item → List Float
+joints_by m right joints None = joints_with right joints m.placed
+joints_by m right joints (Some middle) = if_inserted m joints (joints_with middle joints (before m))
 
-unfoldable pub verdict_at : Prepared → Tolerances → ℕ → Machine → List Float → List Float → Verdict
+unfoldable pub verdict_at : Prepared → Tolerances → ℕ → Machine → List Float → List Float → Option Item
 verdict_at p tol space m poses joints =
     verdict_with p tol (item_at poses joints (m.placed - 1)) (item_at poses joints m.waiting) m.left_axis (axis_right space m (item_at poses joints m.waiting))
 

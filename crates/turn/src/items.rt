@@ -1,5 +1,7 @@
 // A pose and its joint set in lent numbers: six in one slice, five in another, at one index.
-ghost use Rattle.std.specs.Prelude.{◌+◌, ◌*◌, ◌≤◌, ◌≡◌, length};
+ghost use Rattle.std.specs.Prelude.{Bool, ◌+◌, ◌*◌, ◌≤◌, ◌≡◌, length};
+ghost use Rattle.lists.specs.Rows.{rows};
+ghost use Rattle.lists.specs.Search.{all};
 ghost use Rattle.turn.specs.Items as S;
 
 use chain::{Joints, ToolPose};
@@ -21,6 +23,20 @@ pub fn joints_in(joints: &[f64], at: usize) -> Joints
         a0: joints[at + 3],
         a1: joints[at + 4],
     }
+}
+
+// Whether each of the first `sets` joint sets passes. The index is what `joints_in` and the definition `rows` go by.
+pub fn every_set<F: Fn(Joints) -> bool>(joints: &[f64], sets: usize, test: F) -> bool
+    requires room { sets * 5 ≤ length joints.now }
+    requires asked { F.IsAlwaysCallable test }
+    ensures { (t : Joints → Bool) → ((j : Joints) (b : Bool) → F.post test j b → b ≡ t j) → result ≡ all t (rows 5 S.joints_from sets joints.now) }
+{
+    for i in 0..sets {
+        if !test(joints_in(joints, i * 5)) {
+            return false;
+        }
+    }
+    true
 }
 
 // Writes the six numbers of a pose.
@@ -47,6 +63,8 @@ pub fn item_at(poses: &[f64], joints: &[f64], i: usize) -> Item
     Item { pose, joints }
 }
 
+// Two outputs are two parameters. In a struct, `room.put(i, t)`, each function that takes it would have to promise
+// beside what it wrote that they are the same two slices: `room.new.poses.ghost_name ≡ room.old.poses.ghost_name`.
 pub fn put_item(t: Item, poses: &mut [f64], joints: &mut [f64], i: usize)
     requires { (i * 6 + 6 ≤ length poses.old) × (i * 5 + 5 ≤ length joints.old) }
     ensures poses { poses.new ≡ S.poses_with t poses.old i }

@@ -6,20 +6,21 @@ use denote.Laws.{Is}
 use borrow.Author.Rules.{rules}
 use lib.Dec.{T}
 use lib.Ieee.{binary64, fits}
+use Rattle.std.specs.Prelude.{None, Option, Some}
 use Rattle.geometry.specs.declared.Vec3.{Vec3}
 use Rattle.geometry.specs.contracts.Vec3 as VectorRow
-use Rattle.chain.specs.declared.Travel.{Travel}
-use Rattle.chain.specs.declared.Travel.TheVariants.{Unlimited, Within}
+use Rattle.chain.specs.declared.RotaryLimits.{RotaryLimits}
 use Rattle.chain.specs.declared.RotaryJoint.{RotaryJoint}
 use Rattle.chain.specs.declared.Kinematics.{Kinematics}
-use Rattle.chain.specs.contracts.Travel as TravelRow
+use Rattle.std.specs.contracts.option.Option as OptionRow
+use Rattle.chain.specs.contracts.RotaryLimits as LimitsRow
 use Rattle.chain.specs.contracts.RotaryJoint as RotaryRow
 use Rattle.chain.specs.contracts.Kinematics as ChainRow
 use Rattle.geometry.proofs.FitVectors.{FitVec}
 
-abbrev pub TravelFits : Travel → Type 0
-TravelFits Unlimited = Unit {0}
-TravelFits (Within l) = T (fits binary64 l.min) × T (fits binary64 l.max)
+abbrev pub TravelFits : Option RotaryLimits → Type 0
+TravelFits None = Unit {0}
+TravelFits (Some l) = T (fits binary64 l.min) × T (fits binary64 l.max)
 
 pub record RotaryFits (j : RotaryJoint) : Type 0 where
   pub axis : FitVec j.axis
@@ -35,9 +36,9 @@ pub record ChainFits (k : Kinematics) : Type 0 where
 vector_fits : (v : Vec3) (vs : List Val) → Is VectorRow.the_row v vs → FitVec v
 vector_fits v vs g = (search (rules, g), search (rules, g), search (rules, g))
 
-travel_fits : (t : Travel) (vs : List Val) → Is TravelRow.the_row t vs → TravelFits t
-travel_fits Unlimited vs g = tt
-travel_fits (Within l) vs g = search (rules, g)
+travel_fits : (t : Option RotaryLimits) (vs : List Val) → Is (OptionRow.the_row LimitsRow.the_row) t vs → TravelFits t
+travel_fits None vs g = tt
+travel_fits (Some l) vs g = search (rules, g)
 
 rotary_fits : (j : RotaryJoint) (vs : List Val) → Is RotaryRow.the_row j vs → RotaryFits j
 rotary_fits j vs g = record {

@@ -6,7 +6,8 @@ use mathlib.Core.Logic.{inl, inr}
 use mathlib.Core.List.{List, ◌++◌}
 use lib.Dec.{eqb}
 use lib.Ieee.{Float}
-use Rattle.chain.specs.declared.Travel.{Travel}
+use Rattle.std.specs.Prelude.{Option}
+use Rattle.chain.specs.declared.RotaryLimits.{RotaryLimits}
 use Rattle.chain.specs.declared.RotaryJoint.{RotaryJoint}
 use Rattle.chain.specs.declared.Kinematics.{Kinematics}
 use Rattle.middle.specs.declared.Tolerances.{Tolerances}
@@ -14,7 +15,7 @@ use Rattle.job.specs.Spelling.{written}
 use Rattle.job.specs.JobBytes.{word_length}
 use Rattle.writer.specs.Writing.{bytes_of, number_bytes, vector_bytes, carrier_byte, limits_byte, lower, upper, head_bytes, rest_bytes, rotary_bytes, word_of, record_of, Width, trailer_bytes}
 
-abbrev pub travel_bytes : Travel → List ℕ
+abbrev pub travel_bytes : Option RotaryLimits → List ℕ
 travel_bytes t = number_bytes (lower t) ++ number_bytes (upper t)
 
 pub rotary_parts : (w : ℕ) → Width w → (j : RotaryJoint)

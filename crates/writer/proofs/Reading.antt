@@ -10,14 +10,13 @@ use borrow.Author.Tests.{eqb-true, lt-ltb, le-ltb, le-leb, ltb-true}
 use lib.Dec.{T, ltb, leb, eqb, lit≤}
 use lib.ListN.{length, replicate, length-append}
 use lib.Ieee.{Float, binary64, fits, of_bits}
+use Rattle.std.specs.Prelude.{None, Ok, Option, Some}
 use Rattle.lists.specs.Rows.{flat}
 use Rattle.float.specs.Helpers.{nought}
-use Rattle.refusal.specs.Numbers as Numbers
-use Rattle.chain.specs.declared.Checked.TheVariants.{Passed}
+use Rattle.refusal.specs.declared.Cause.{Cause}
+use Rattle.chain.specs.declared.RotaryLimits.{RotaryLimits}
 use Rattle.chain.specs.declared.Carrier.{Carrier}
 use Rattle.chain.specs.declared.Carrier.TheVariants.{Table, Head}
-use Rattle.chain.specs.declared.Travel.{Travel}
-use Rattle.chain.specs.declared.Travel.TheVariants.{Unlimited, Within}
 use Rattle.chain.specs.declared.RotaryJoint.{RotaryJoint}
 use Rattle.chain.specs.declared.Kinematics.{Kinematics}
 use Rattle.chain.specs.Bytes.{byte_at, little_endian, number_at, spare}
@@ -30,7 +29,6 @@ use Rattle.job.specs.JobBytes as Trailer
 use Rattle.job.specs.JobBytes.{trailer, word_length, sized, places_in, chain_end, poses_end, apart, placed, rotary_part, second_part, chain_part, second_in, chain_in, job_at, job_fields, job_from, read_job}
 use Rattle.job.specs.JobPoses.{numbers_at, poses_of}
 use Rattle.job.specs.declared.Places.{Places}
-use Rattle.job.specs.declared.JobRead.TheVariants as JobRead
 use Rattle.writer.specs.Writing.{bytes_of, number_bytes, vector_bytes, carrier_byte, limits_byte, lower, upper, head_bytes, rest_bytes, rotary_bytes, rest_nought, second_nought, word_of, record_of, Width, second_bytes, chain_bytes, poses_bytes, trailer_bytes, job_bytes, plain, job_of}
 use Rattle.writer.proofs.Fitting.{TravelFits, RotaryFits, ChainFits}
 use Rattle.writer.proofs.Parts.{travel_bytes, rotary_parts, record_width, trailer_parts}
@@ -49,7 +47,7 @@ unfolding rest_nought
 nought_there x f h = sym (bits_there x f) ∙ ap (of_bits binary64) (eqb-true (bits_of x) 0 h)
 
 -- ---- a rotary
-pub travel_length : (t : Travel) → length (travel_bytes t) ≡ 16
+pub travel_length : (t : Option RotaryLimits) → length (travel_bytes t) ≡ 16
 travel_length t = length-append (number_bytes (lower t)) (number_bytes (upper t)) ∙ rw (length_number (lower t), length_number (upper t))
 
 pub rest_length : (w : ℕ) → Width w → (rest : Float) → length (rest_bytes w rest) + 72 ≡ w
@@ -106,7 +104,7 @@ module _ (w : ℕ) (width : Width w) (bytes : List ℕ) (at : ℕ) (j : RotaryJo
   limits_there : byte_at bytes (limits_field at) ≡ limits_byte j.limits
   limits_there = head.byte 2 (omega arith)
 
-  zeros_there : zeros bytes (empty_fields at) 5 ≡ Passed
+  zeros_there : zeros bytes (empty_fields at) 5 ≡ Ok tt
   zeros_there = zeros_read 5 bytes (empty_fields at) (stands_right (j.letter ∷ carrier_byte j.carrier ∷ limits_byte j.limits ∷ []) (replicate 5 0) 3 (empty_fields at) refl refl head)
 
   carrier_good : flag bytes (carrier_field at) ≡ true
@@ -121,19 +119,19 @@ module _ (w : ℕ) (width : Width w) (bytes : List ℕ) (at : ℕ) (j : RotaryJo
   unfolding flag
   limits_good = rw limits_there (go j.limits)
     where
-      go : (t : Travel) → ltb (limits_byte t) 2 ≡ true
-      go Unlimited = refl
-      go (Within l) = refl
+      go : (t : Option RotaryLimits) → ltb (limits_byte t) 2 ≡ true
+      go None = refl
+      go (Some l) = refl
 
   nought_bits : bits_of nought ≡ 0
   unfolding bits_of of_bits lib.Ieee.ne lib.Ieee.to_bits
   nought_bits = refl
 
   -- an unused limit is +0.0
-  spares : (t : Travel) → limits_byte t ≡ byte_at bytes (limits_field at) → Stands bytes (min_field at) (travel_bytes t) → (spare bytes (limits_field at) (min_field at) ≡ true) × (spare bytes (limits_field at) (max_field at) ≡ true)
+  spares : (t : Option RotaryLimits) → limits_byte t ≡ byte_at bytes (limits_field at) → Stands bytes (min_field at) (travel_bytes t) → (spare bytes (limits_field at) (min_field at) ≡ true) × (spare bytes (limits_field at) (max_field at) ≡ true)
   unfolding spare
-  spares (Within l) e u = rw (← e) (refl, refl)
-  spares Unlimited e u =
+  spares (Some l) e u = rw (← e) (refl, refl)
+  spares None e u =
       let a : Stands bytes (min_field at) (number_bytes nought) = stands_left (number_bytes nought) (number_bytes nought) u in
       let b : Stands bytes (max_field at) (number_bytes nought) = stands_right (number_bytes nought) (number_bytes nought) 8 (max_field at) (length_number nought) (omega arith) u in
       let x : little_endian 8 bytes (min_field at) ≡ 0 = none (min_field at) a in
@@ -145,20 +143,20 @@ module _ (w : ℕ) (width : Width w) (bytes : List ℕ) (at : ℕ) (j : RotaryJo
           let o : Stands bytes from (bytes_of 8 (bits_of nought)) = unfold number_bytes in v in
           whole_read 8 0 bytes from (omega arith) (rw nought_bits at o)
 
-  pub fields_there : rotary_fields bytes at ≡ Passed
+  pub fields_there : rotary_fields bytes at ≡ Ok tt
   unfolding rotary_fields
   fields_there =
       let p = spares j.limits (sym limits_there) from_limits in
       rw (carrier_good, limits_good, zeros_there, p.0, p.1)
 
-  pub part_there : (i : ℕ) → known_letter j.letter ≡ true → rotary_part bytes at i ≡ Passed
+  pub part_there : (i : ℕ) → known_letter j.letter ≡ true → rotary_part bytes at i ≡ Ok tt
   unfolding rotary_part
   part_there i h = rw (letter_there, h) fields_there
 
-  travel_there : (t : Travel) → limits_byte t ≡ byte_at bytes (limits_field at) → TravelFits t → Stands bytes (min_field at) (travel_bytes t) → travel_at bytes at ≡ t
+  travel_there : (t : Option RotaryLimits) → limits_byte t ≡ byte_at bytes (limits_field at) → TravelFits t → Stands bytes (min_field at) (travel_bytes t) → travel_at bytes at ≡ t
   unfolding travel_at
-  travel_there Unlimited e f u = rw (← e)
-  travel_there (Within l) e f u =
+  travel_there None e f u = rw (← e)
+  travel_there (Some l) e f u =
       let a = number_read l.min bytes (min_field at) f.0 (stands_left (number_bytes l.min) (number_bytes l.max) u) in
       let b = number_read l.max bytes (max_field at) f.1 (stands_right (number_bytes l.min) (number_bytes l.max) 8 (max_field at) (length_number l.min) (omega arith) u) in
       rw (← e, a, b)
@@ -257,7 +255,7 @@ module _ (w : ℕ) (width : Width w) (bytes : List ℕ) (p : Places) (k : Kinema
   pub count_there : byte_at bytes p.chain ≡ k.count
   count_there = let z : p.chain + 0 ≡ p.chain = omega arith in rw z at (chain_head.byte 0 (omega arith))
 
-  pub chain_part_there : known_letter k.first.letter ≡ true → (eqb k.count 2 ≡ true → known_letter k.second.letter ≡ true) → chain_part w bytes p k.count ≡ Passed
+  pub chain_part_there : known_letter k.first.letter ≡ true → (eqb k.count 2 ≡ true → known_letter k.second.letter ≡ true) → chain_part w bytes p k.count ≡ Ok tt
   unfolding chain_part second_part
   chain_part_there h l =
       rw (
@@ -266,7 +264,7 @@ module _ (w : ℕ) (width : Width w) (bytes : List ℕ) (p : Places) (k : Kinema
       )
       (go (eqb k.count 2) refl)
     where
-      go : (t : Bool) → eqb k.count 2 ≡ t → cond t (rotary_part bytes (p.chain + second_field w) 1) Passed ≡ Passed
+      go : (t : Bool) → eqb k.count 2 ≡ t → cond t (rotary_part bytes (p.chain + second_field w) 1) (Ok tt) ≡ Ok tt
       go true e = part_there w width bytes (p.chain + second_field w) k.second (second_stands true e refl) 1 (l e)
       go false e = refl
 
@@ -338,9 +336,9 @@ module _ (k : Kinematics) (poses : List Float) (cone : Float) (tol : Tolerances)
       let e6 = length-append (number_bytes tol.chord) (number_bytes tol.axis) in
       omega (arith, whole, n1, n2, n3, n4, f1, f2, f3, e1, e2, e3, e4, e5, e6)
 
-  pub job_length_lem : length Job' ≡ C + 8 * length poses + 40
+  pub length_of_job : length Job' ≡ C + 8 * length poses + 40
   unfolding job_bytes
-  job_length_lem =
+  length_of_job =
       let a = chain_length (record_of k) (record_width k) k counted in
       let b = poses_length poses in
       let c = trailer_length in
@@ -349,7 +347,7 @@ module _ (k : Kinematics) (poses : List Float) (cone : Float) (tol : Tolerances)
       omega (arith, a, b, c, e, f)
 
   at_trailer : trailer Job' ≡ C + 8 * length poses
-  at_trailer = let e = job_length_lem in omega (arith, e)
+  at_trailer = let e = length_of_job in omega (arith, e)
 
   whole_stands : Stands Job' 0 (chain_bytes (record_of k) k ++ (poses_bytes poses ++ Last))
   whole_stands = unfold job_bytes in stands_whole Job'
@@ -438,12 +436,12 @@ module _ (k : Kinematics) (poses : List Float) (cone : Float) (tol : Tolerances)
   sized_good : sized (length Job') ≡ true
   unfolding sized
   sized_good =
-      let e = job_length_lem in
+      let e = length_of_job in
       let a : 40 ≤ length Job' = omega (arith, e) in
       let b : length Job' ≤ 65536 = omega (arith, e, short) in
       rw (le-ltb (length Job') 40 a, le-leb (length Job') 65536 b)
 
-  placed_good : placed (record_of k) Job' (places_in Job') k.count ≡ Passed
+  placed_good : placed (record_of k) Job' (places_in Job') k.count ≡ Ok tt
   unfolding placed chain_end poses_end apart
   placed_good =
       let e = at_trailer in
@@ -454,14 +452,14 @@ module _ (k : Kinematics) (poses : List Float) (cone : Float) (tol : Tolerances)
       rw (chain_at_0, poses_at-C, count_is-N, word_is-W, lt-ltb W 2 word_small, lt-ltb 0 (trailer Job') a, counted, le-leb (0 + C) (trailer Job') b, le-leb (C + 48 * N) (trailer Job') c, le-leb (0 + C) C d)
       (go (eqb N 0) (leb (C + 48 * N) 0))
     where
-      go : (x y : Bool) → then (demand (x || y || true) Numbers.malformed (Trailer.poses_field (trailer Job'))) Passed ≡ Passed
+      go : (x y : Bool) → then (demand (x || y || true) Cause.Malformed (Trailer.poses_field (trailer Job'))) (Ok tt) ≡ Ok tt
       go true y = refl
       go false true = refl
       go false false = refl
 
   module _ (fit-chain : ChainFits k) (fit-poses : FitUpTo (length poses) poses) (fit-cone : T (fits binary64 cone)) (fit-chord : T (fits binary64 tol.chord)) (fit-axis : T (fits binary64 tol.axis))
       (first-letter : known_letter k.first.letter ≡ true) (second-letter : eqb k.count 2 ≡ true → known_letter k.second.letter ≡ true) where
-    pub read_back : read_job Job' ≡ JobRead.Job (job_of k poses cone tol)
+    pub read_back : read_job Job' ≡ Ok (job_of k poses cone tol)
     unfolding read_job job_from job_fields job_at job_of plain
     read_back =
         rw (

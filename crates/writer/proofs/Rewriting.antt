@@ -6,9 +6,9 @@ use mathlib.Core.Bool.{Bool, true, false, cond, ◌&&◌}
 use mathlib.Core.List.{List, [], ◌++◌}
 use lib.Dec.{eqb}
 use lib.Ieee.{Float}
-use Rattle.refusal.specs.Numbers as Numbers
-use Rattle.chain.specs.declared.Checked.{Checked}
-use Rattle.chain.specs.declared.Checked.TheVariants.{Passed}
+use Rattle.std.specs.Prelude.{Ok}
+use Rattle.refusal.specs.declared.Cause.{Cause}
+use Rattle.chain.specs.Checked.{Checked}
 use Rattle.chain.specs.declared.Kinematics.{Kinematics}
 use Rattle.geometry.specs.Direction.{all_finite}
 use Rattle.chain.specs.Check.{has_direction, demand, then, one_or_two, rotary_check, second_check, chain_check, rotary_within, chain_within}
@@ -16,7 +16,6 @@ use Rattle.chain.specs.ChainBytes.{no_rotary}
 use Rattle.middle.specs.declared.Tolerances.{Tolerances}
 use Rattle.job.specs.JobBytes.{word_length, read_job}
 use Rattle.job.specs.JobPoses.{poses_of}
-use Rattle.job.specs.declared.JobRead.TheVariants as JobRead
 use Rattle.writer.specs.Writing.{vector_bytes, head_bytes, rotary_bytes, rest_nought, second_nought, word_of, record_of, second_bytes, chain_bytes, job_bytes, plain, job_of}
 use Rattle.writer.specs.Checking.{write_sizes, in_order, write_check, tolerances_of, SameFile}
 
@@ -50,10 +49,10 @@ module _ (k : Kinematics) where
   unfolding chain_check second_check plain
   same_check =
       ap
-      (λ (c : Checked). then (demand (one_or_two k.count) Numbers.rotary_count 0) (then (rotary_check k.first 0 0) (then c (then (demand (all_finite k.spindle_axis) Numbers.chain_not_finite 0) (demand (has_direction k.spindle_axis) Numbers.spindle_zero 0)))))
+      (λ (c : Checked). then (demand (one_or_two k.count) Cause.RotaryCount 0) (then (rotary_check k.first 0 0) (then c (then (demand (all_finite k.spindle_axis) Cause.ChainNotFinite 0) (demand (has_direction k.spindle_axis) Cause.SpindleZero 0)))))
       (go (eqb k.count 2))
     where
-      go : (t : Bool) → cond t (rotary_check (cond t k.second no_rotary) k.first.letter 1) Passed ≡ cond t (rotary_check k.second k.first.letter 1) Passed
+      go : (t : Bool) → cond t (rotary_check (cond t k.second no_rotary) k.first.letter 1) (Ok tt) ≡ cond t (rotary_check k.second k.first.letter 1) (Ok tt)
       go true = refl
       go false = refl
 
@@ -72,10 +71,10 @@ module _ (k : Kinematics) where
 -- ---- the file
 module _ (k : Kinematics) (poses : List Float) (cone : Float) (tol : Tolerances) (room : ℕ) where
   -- by what the reader gets
-  pub same_file : write_check k poses cone tol room ≡ Passed → read_job (job_bytes k poses cone tol) ≡ JobRead.Job (job_of k poses cone tol)
+  pub same_file : write_check k poses cone tol room ≡ Ok tt → read_job (job_bytes k poses cone tol) ≡ Ok (job_of k poses cone tol)
       → poses_of (job_bytes k poses cone tol) (job_of k poses cone tol) ≡ poses → SameFile (read_job (job_bytes k poses cone tol)) (job_bytes k poses cone tol) room
   same_file e r p = rw (r, p) (again e)
     where
-      again : write_check k poses cone tol room ≡ Passed → (write_check (job_of k poses cone tol).chain poses (job_of k poses cone tol).cone (tolerances_of (job_of k poses cone tol)) room ≡ Passed)
+      again : write_check k poses cone tol room ≡ Ok tt → (write_check (job_of k poses cone tol).chain poses (job_of k poses cone tol).cone (tolerances_of (job_of k poses cone tol)) room ≡ Ok tt)
           × (job_bytes (job_of k poses cone tol).chain poses (job_of k poses cone tol).cone (tolerances_of (job_of k poses cone tol)) ≡ job_bytes k poses cone tol)
       again e = unfold job_of in (same_write k poses cone tol room ∙ e, same_bytes k poses cone tol)

@@ -8,13 +8,12 @@ use mathlib.Core.List.{List, [], ◌∷◌, ◌++◌}
 use lib.Dec.{T}
 use lib.ListN.{length, replicate, length-append, get_or-append}
 use lib.Seq.{get_or-append-add}
-use lib.Ieee.{Float, nan, binary64, fits, of_bits, to_bits}
+use lib.Ieee.{Float, nan, inf, fin, is_nan, binary64, fits, of_bits, to_bits}
 use lib.Ieee as Ieee
 use lib.Ieee.Bits.{of_bits-to_bits, to_bits-lt}
-use Rattle.chain.specs.declared.Checked.TheVariants.{Passed}
+use Rattle.std.specs.Prelude.{Ok}
 use Rattle.chain.specs.Bytes.{byte_at, little_endian, number_at, vector_at}
 use Rattle.chain.specs.ChainBytes.{zeros}
-use Rattle.chain.proofs.Bytes.{the_nan}
 use Rattle.geometry.specs.declared.Vec3.{Vec3}
 use Rattle.float.proofs.Choices.{nan_of}
 use Rattle.job.specs.Spelling.{bits_of}
@@ -74,6 +73,12 @@ bits_of_nan : of_bits binary64 0x7ff8_0000_0000_0000 ≡ nan
 unfolding of_bits
 bits_of_nan = refl
 
+the_nan : (x : Float) → is_nan x ≡ true → x ≡ nan
+unfolding is_nan
+the_nan nan e = refl
+the_nan (inf s) e = cc
+the_nan (fin s m d) e = cc
+
 pub bits_there : (x : Float) → T (fits binary64 x) → of_bits binary64 (bits_of x) ≡ x
 unfolding bits_of
 bits_there x t = go (Ieee.ne x x) refl
@@ -115,7 +120,7 @@ vector_read v bytes at f s =
     )
 
 -- ---- zero bytes
-pub zeros_read : (n : ℕ) (bytes : List ℕ) (at : ℕ) → Stands bytes at (replicate n 0) → zeros bytes at n ≡ Passed
+pub zeros_read : (n : ℕ) (bytes : List ℕ) (at : ℕ) → Stands bytes at (replicate n 0) → zeros bytes at n ≡ Ok tt
 unfolding zeros
 zeros_read zero bytes at s = refl
 zeros_read (suc n) bytes at s =

@@ -1,6 +1,6 @@
 -- Laws of texts put one behind another, and of the loops that put them.
-use Prim.Native.Nat.{ℕ, suc, ◌+◌, ◌-◌, ◌*◌, ◌/◌, ◌%◌, ◌≤◌, ◌<◌}
-use native.Mathlib.Nat.{add-zero}
+use Prim.Native.Nat.{ℕ, suc, ◌+◌, ◌*◌, ◌/◌, ◌≤◌, ◌<◌}
+use native.Mathlib.Nat.{add-zero, div-div-eq-div-mul}
 use native.Mathlib.Numerals.{add-one}
 use native.Mathlib.Omega.{arith}
 use mathlib.Core.Path.{◌≡◌, refl, sym, ap, ◌∙◌}
@@ -8,7 +8,8 @@ use mathlib.Core.Bool.{true, false}
 use mathlib.Core.Logic.{inl, inr}
 use mathlib.Core.List.{List, [], ◌∷◌, ◌++◌}
 use lib.Dec.{eqb}
-use lib.ListN.{length, get_or, drop, set, length-set, length-append, drop_of_length-le}
+use Rattle.std.specs.Int.{w64, to_le_bytes}
+use lib.ListN.{take, length, get_or, drop, set, length-append, drop_of_length-le}
 use lib.Seq.{drop-cons}
 use lib.Ieee.{Float, nan}
 use Rattle.lists.specs.Rows.{flat}
@@ -49,41 +50,14 @@ front (b ∷ t) (x ∷ out) h =
     let k : suc (length t) ≤ suc (length out) = h in
     behind b out 0 t ∙ ap (λ (l : List ℕ). b ∷ l) (front t out (omega (arith, k)))
 
--- ---- a whole number
-pub record Wholes (n x : ℕ) (o : List ℕ) (at : ℕ) (l : List ℕ) (rest i : ℕ) : Type 0 where
-  pub within : i ≤ n
-  pub room : at + n ≤ length o
-  pub as_long : length l ≡ length o
-  pub whole : written l (at + i) (bytes_of (n - i) rest) ≡ written o at (bytes_of n x)
+-- ---- a whole number, as the library writes it
+pub eight_low : (x : ℕ) → to_le_bytes w64 x ≡ bytes_of 8 x
+unfolding bytes_of
+eight_low x = simp div-div-eq-div-mul
 
-module _ {n x : ℕ} {o : List ℕ} {at : ℕ} where
-  pub wholes_start : at + n ≤ length o → Wholes n x o at o x 0
-  wholes_start h =
-      let e : n - 0 ≡ n = omega arith in
-      record { within = omega arith; room = h; as_long = refl; whole = rw (add-zero, e) }
-
-  pub wholes_step : {l : List ℕ} {rest i : ℕ} → i < n → Wholes n x o at l rest i → Wholes n x o at (set l (at + i) (rest % 256)) (rest / 256) (i + 1)
-  wholes_step {l} {rest} {i} h f =
-      let s : n - i ≡ suc (n - (i + 1)) = omega (arith, h) in
-      let e : at + i + 1 ≡ at + (i + 1) = omega arith in
-      let g : written l (at + i) (bytes_of (suc (n - (i + 1))) rest) ≡ written o at (bytes_of n x) = rw (← s) f.whole in
-      record {
-        within = omega (arith, h);
-        room = f.room;
-        as_long = length-set l (at + i) (rest % 256) ∙ f.as_long;
-        whole = ap (λ (k : ℕ). written (set l (at + i) (rest % 256)) k (bytes_of (n - (i + 1)) (rest / 256))) (sym e) ∙ opened (n - (i + 1)) l (at + i) rest ∙ g;
-      }
-    where
-      opened : (m : ℕ) (l : List ℕ) (k rest : ℕ) → written (set l k (rest % 256)) (k + 1) (bytes_of m (rest / 256)) ≡ written l k (bytes_of (suc m) rest)
-      opened m l k rest = unfold written bytes_of in refl
-
-  pub wholes_end : {l : List ℕ} {rest i : ℕ} → n ≤ i → Wholes n x o at l rest i → l ≡ written o at (bytes_of n x)
-  wholes_end {l} {rest} {i} h f =
-      let z : n - i ≡ 0 = omega (arith, h) in
-      none l (at + i) rest ∙ ap (λ (m : ℕ). written l (at + i) (bytes_of m rest)) (sym z) ∙ f.whole
-    where
-      none : (l : List ℕ) (k rest : ℕ) → l ≡ written l k (bytes_of 0 rest)
-      none l k rest = unfold written bytes_of in refl
+pub four_low : (x : ℕ) → take 4 (to_le_bytes w64 x) ≡ bytes_of 4 x
+unfolding bytes_of
+four_low x = simp div-div-eq-div-mul
 
 -- ---- straight lines
 pub put_vector : (v : Vec3) (at : ℕ) (o o1 o2 o3 : List ℕ) → o1 ≡ written o at (number_bytes v.x) → o2 ≡ written o1 (at + 8) (number_bytes v.y) → o3 ≡ written o2 (at + 16) (number_bytes v.z) → o3 ≡ written o at (vector_bytes v)
@@ -91,14 +65,6 @@ unfolding vector_bytes
 put_vector v at o o1 o2 o3 p q r =
     joined o o1 o3 (number_bytes v.x) (number_bytes v.y ++ number_bytes v.z) at 8 (at + 8) (length_number v.x) refl p
     (joined o1 o2 o3 (number_bytes v.y) (number_bytes v.z) (at + 8) 8 (at + 16) (length_number v.y) (omega arith) q r)
-
--- three bytes, then five zeros
-pub put_head : (a b c at : ℕ) (o o1 : List ℕ) → o1 ≡ written (set (set (set o at a) (at + 1) b) (at + 2) c) (at + 3) (bytes_of 5 0) → o1 ≡ written o at (head_bytes a b c)
-unfolding written bytes_of
-put_head a b c at o o1 p =
-    let e : at + 1 + 1 ≡ at + 2 = omega arith in
-    let f : at + 2 + 1 ≡ at + 3 = omega arith in
-    p ∙ rw (e, f)
 
 pub wide : (w : ℕ) → Width w → 72 ≤ w
 wide w (inl e) = omega (arith, e)
@@ -198,8 +164,8 @@ module _ {poses : List Float} {o : List ℕ} {at : ℕ} where
       more : (x : Float) (p : List Float) → number_bytes x ++ poses_bytes p ≡ poses_bytes (x ∷ p)
       more x p = unfold poses_bytes flat in refl
 
-  pub poses_end_lem : {l : List ℕ} {i : ℕ} → length poses ≤ i → Poses poses o at l i → l ≡ written o at (poses_bytes poses)
-  poses_end_lem {l} {i} h f = none l (at + i * 8) ∙ ap (λ (p : List Float). written l (at + i * 8) (poses_bytes p)) (sym (drop_of_length-le poses h)) ∙ f.whole
+  pub poses_end : {l : List ℕ} {i : ℕ} → length poses ≤ i → Poses poses o at l i → l ≡ written o at (poses_bytes poses)
+  poses_end {l} {i} h f = none l (at + i * 8) ∙ ap (λ (p : List Float). written l (at + i * 8) (poses_bytes p)) (sym (drop_of_length-le poses h)) ∙ f.whole
     where
       none : (l : List ℕ) (k : ℕ) → l ≡ written l k (poses_bytes [])
       none l k = unfold written poses_bytes flat in refl

@@ -1,9 +1,10 @@
 -- The writer's checks as one list, what it answers, what it leaves in the lent bytes, and what is promised of the job.
-use Rattle.std.specs.Prelude.{◌≡◌, Bool, ◌&&◌, List, [], ◌∷◌, ◌++◌, ℕ, ◌+◌, ◌*◌, ◌%◌, eqb, leb, length, drop, Float}
+use Rattle.std.specs.Prelude.{◌≡◌, Bool, ◌&&◌, List, [], ◌∷◌, ◌++◌, ℕ, ◌+◌, ◌*◌, ◌%◌, eqb, leb, length, drop, Float, Err, Ok, Result}
 use Rattle.std.specs.Float.Ieee.Scale.{finite}
 use Rattle.lists.specs.Search.{all}
-use Rattle.refusal.specs.Numbers as Numbers
-use Rattle.chain.specs.declared.Checked.{Checked}
+use Rattle.refusal.specs.declared.Refusal.{Refusal}
+use Rattle.refusal.specs.declared.Cause.{Cause}
+use Rattle.chain.specs.Checked.{Checked}
 use Rattle.chain.specs.declared.Kinematics.{Kinematics}
 use Rattle.chain.specs.Check.{demand, first_refusal, chain_check, chain_within}
 use Rattle.chain.specs.ChainBytes.{length_of_chain}
@@ -11,10 +12,8 @@ use Rattle.path.specs.Solving.{cone_good, poses_in}
 use Rattle.middle.specs.declared.Tolerances.{Tolerances}
 use Rattle.divide.specs.Checking.{tolerance_good, tip_within}
 use Rattle.job.specs.declared.Job.{Job}
-use Rattle.job.specs.declared.JobRead.{JobRead}
 use Rattle.job.specs.JobBytes.{read_job}
 use Rattle.job.specs.JobPoses.{poses_of}
-use Rattle.writer.specs.declared.Written.{Written}
 use Rattle.writer.specs.Writing.{record_of, job_bytes, job_of}
 
 -- ---- sizes
@@ -33,14 +32,14 @@ write_sizes k poses = chain_within k && all tip_within (poses_in poses) && leb (
 unfoldable pub in_order : Kinematics → (whole cone chord axis finite sizes space : Bool) → Checked
 in_order k whole cone chord axis finite sizes space =
     first_refusal
-    (demand whole Numbers.lengths_differ 0
+    (demand whole Cause.LengthsDiffer 0
     ∷ chain_check k
-    ∷ demand cone Numbers.cone 0
-    ∷ demand chord Numbers.tolerance 0
-    ∷ demand axis Numbers.tolerance 0
-    ∷ demand finite Numbers.not_finite 0
-    ∷ demand sizes Numbers.too_large 0
-    ∷ demand space Numbers.no_space 0
+    ∷ demand cone Cause.Cone 0
+    ∷ demand chord Cause.Tolerance 0
+    ∷ demand axis Cause.Tolerance 0
+    ∷ demand finite Cause.NotFinite 0
+    ∷ demand sizes Cause.TooLarge 0
+    ∷ demand space Cause.NoSpace 0
     ∷ [])
 
 -- `room` is how many bytes are lent
@@ -50,16 +49,16 @@ write_check k poses cone tol room =
     (leb (length_of k poses) room)
 
 -- ---- what is answered, and what is left: a refusal keeps the lent bytes, and those behind a job stay
-abbrev pub answer_after : Checked → ℕ → Written
-answer_after Checked.Passed n = Written.Bytes n
-answer_after (Checked.Refused r) n = Written.Refused r
+abbrev pub answer_after : Checked → ℕ → Result ℕ Refusal
+answer_after (Ok _) n = Ok n
+answer_after (Err r) n = Err r
 
-unfoldable pub written_answer : Kinematics → List Float → Float → Tolerances → (room : ℕ) → Written
+unfoldable pub written_answer : Kinematics → List Float → Float → Tolerances → (room : ℕ) → Result ℕ Refusal
 written_answer k poses cone tol room = answer_after (write_check k poses cone tol room) (length_of k poses)
 
 abbrev pub bytes_after : Checked → (job out : List ℕ) → List ℕ
-bytes_after Checked.Passed job out = job ++ drop (length job) out
-bytes_after (Checked.Refused r) job out = out
+bytes_after (Ok _) job out = job ++ drop (length job) out
+bytes_after (Err r) job out = out
 
 unfoldable pub written_job : Kinematics → List Float → Float → Tolerances → (out : List ℕ) → List ℕ
 written_job k poses cone tol out = bytes_after (write_check k poses cone tol (length out)) (job_bytes k poses cone tol) out
@@ -68,20 +67,20 @@ written_job k poses cone tol out = bytes_after (write_check k poses cone tol (le
 -- what the reader gets from a job that was written is what the writer was given
 abbrev pub ReadBack : Kinematics → List Float → Float → Tolerances → (room : ℕ) → Type 0
 ReadBack k poses cone tol room =
-    write_check k poses cone tol room ≡ Checked.Passed
-    → (read_job (job_bytes k poses cone tol) ≡ JobRead.Job (job_of k poses cone tol)) × (poses_of (job_bytes k poses cone tol) (job_of k poses cone tol) ≡ poses)
+    write_check k poses cone tol room ≡ Ok tt
+    → (read_job (job_bytes k poses cone tol) ≡ Ok (job_of k poses cone tol)) × (poses_of (job_bytes k poses cone tol) (job_of k poses cone tol) ≡ poses)
 
 abbrev pub tolerances_of : Job → Tolerances
 tolerances_of j = record { chord = j.chord; axis = j.axis }
 
 -- what is read from a file is written again, to the bytes of the file
-abbrev pub SameFile : JobRead → (file : List ℕ) → (room : ℕ) → Type 0
-SameFile (JobRead.Refused r) file room = ⊥
-SameFile (JobRead.Job j) file room =
-    (write_check j.chain (poses_of file j) j.cone (tolerances_of j) room ≡ Checked.Passed)
+abbrev pub SameFile : Result Job Refusal → (file : List ℕ) → (room : ℕ) → Type 0
+SameFile (Err r) file room = ⊥
+SameFile (Ok j) file room =
+    (write_check j.chain (poses_of file j) j.cone (tolerances_of j) room ≡ Ok tt)
     × (job_bytes j.chain (poses_of file j) j.cone (tolerances_of j) ≡ file)
 
 -- of every file that the writer could have produced
 abbrev pub Rewritten : Kinematics → List Float → Float → Tolerances → (room : ℕ) → Type 0
 Rewritten k poses cone tol room =
-    write_check k poses cone tol room ≡ Checked.Passed → SameFile (read_job (job_bytes k poses cone tol)) (job_bytes k poses cone tol) room
+    write_check k poses cone tol room ≡ Ok tt → SameFile (read_job (job_bytes k poses cone tol)) (job_bytes k poses cone tol) room

@@ -1,6 +1,6 @@
 -- Worked examples that the checker computes: the bytes of a number and of a job, the longest jobs, and the order of the
 -- checks.
-use Rattle.std.specs.Prelude.{ℕ, ◌*◌, ◌≡◌, refl, true, false, List, [], ◌∷◌, ◌++◌, leb, replicate, Float}
+use Rattle.std.specs.Prelude.{ℕ, ◌*◌, ◌≡◌, refl, true, false, List, [], ◌∷◌, ◌++◌, leb, replicate, Float, Err, None, Ok}
 use Rattle.std.specs.Float.Ieee as Ieee
 use Rattle.std.specs.Float.{binary64}
 use Rattle.std.specs.Float.Ieee.{of_bits, to_bits}
@@ -8,9 +8,9 @@ use Rattle.lists.specs.Rows.{flat}
 use Rattle.float.specs.Helpers.{nought}
 use Rattle.geometry.specs.Vector.{vector}
 use Rattle.refusal.specs.Numbers.{refusal}
-use Rattle.chain.specs.declared.Checked.{Checked}
+use Rattle.refusal.specs.declared.Cause.{Cause}
+use Rattle.chain.specs.Checked.{Checked}
 use Rattle.chain.specs.declared.Carrier.TheVariants.{Head}
-use Rattle.chain.specs.declared.Travel.TheVariants.{Unlimited}
 use Rattle.chain.specs.declared.Kinematics.{Kinematics}
 use Rattle.chain.specs.Check.{chain_check}
 use Rattle.chain.specs.ChainBytes.{no_rotary}
@@ -38,7 +38,7 @@ numbers = (refl, refl, refl)
 chain : Float → Kinematics
 chain rest = record {
   count = 1;
-  first = record { letter = 67; carrier = Head; limits = Unlimited; axis = vector nought nought one; pivot = vector nought nought nought; rest = rest };
+  first = record { letter = 67; carrier = Head; limits = None; axis = vector nought nought one; pivot = vector nought nought nought; rest = rest };
   second = no_rotary;
   spindle_axis = vector nought nought one;
 }
@@ -84,22 +84,22 @@ unfolding job_length
 longest = (refl, refl, refl, refl, refl, refl, refl, refl)
 
 -- ---- each refusal with everything behind it at fault too
-refused : ℕ → Checked
-refused number = Checked.Refused (refusal number 0)
+refused : Cause → Checked
+refused cause = Err (refusal cause 0)
 
-order : (k : Kinematics) → chain_check k ≡ Checked.Passed
-    → (in_order k false false false false false false false ≡ refused 20)
-    × (in_order k true false false false false false false ≡ refused 18)
-    × (in_order k true true false false false false false ≡ refused 19)
-    × (in_order k true true true false false false false ≡ refused 19)
-    × (in_order k true true true true false false false ≡ refused 16)
-    × (in_order k true true true true true false false ≡ refused 17)
-    × (in_order k true true true true true true false ≡ refused 28)
-    × (in_order k true true true true true true true ≡ Checked.Passed)
+order : (k : Kinematics) → chain_check k ≡ Ok tt
+    → (in_order k false false false false false false false ≡ refused Cause.LengthsDiffer)
+    × (in_order k true false false false false false false ≡ refused Cause.Cone)
+    × (in_order k true true false false false false false ≡ refused Cause.Tolerance)
+    × (in_order k true true true false false false false ≡ refused Cause.Tolerance)
+    × (in_order k true true true true false false false ≡ refused Cause.NotFinite)
+    × (in_order k true true true true true false false ≡ refused Cause.TooLarge)
+    × (in_order k true true true true true true false ≡ refused Cause.NoSpace)
+    × (in_order k true true true true true true true ≡ Ok tt)
 unfolding in_order refused
 order k e = rw e (refl, refl, refl, refl, refl, refl, refl, refl)
 
 -- the chain's refusal comes before the cone's
-chain_first : (k : Kinematics) → chain_check k ≡ refused 9 → in_order k true false false false false false false ≡ refused 9
+chain_first : (k : Kinematics) → chain_check k ≡ refused Cause.SpindleZero → in_order k true false false false false false false ≡ refused Cause.SpindleZero
 unfolding in_order refused
 chain_first k e = rw e

@@ -4,14 +4,13 @@
 -- The fields are those of the reader's lists (`ChainBytes` of chain, `JobBytes` of job): a record and the trailer are
 -- zero bytes with each field's text over them, from the offset that the list has for it. A rotary's record has w bytes:
 -- 80 with its rest angle, or 72 where every rest angle of the chain is +0.0.
-use Rattle.std.specs.Prelude.{Bool, true, ◌&&◌, cond, ◌⊎◌, ◌≡◌, List, [], ◌∷◌, ◌++◌, ℕ, zero, suc, ◌/◌, ◌%◌, eqb, length, replicate, Float}
+use Rattle.std.specs.Prelude.{Bool, true, ◌&&◌, cond, ◌⊎◌, ◌≡◌, List, [], ◌∷◌, ◌++◌, ℕ, zero, suc, ◌/◌, ◌%◌, eqb, length, replicate, Float, None, Option, Some}
 use Rattle.lists.specs.Rows.{flat}
 use Rattle.float.specs.Helpers.{nought}
 use Rattle.geometry.specs.declared.Vec3.{Vec3}
+use Rattle.chain.specs.declared.RotaryLimits.{RotaryLimits}
 use Rattle.chain.specs.declared.Carrier.{Carrier}
 use Rattle.chain.specs.declared.Carrier.TheVariants.{Table, Head}
-use Rattle.chain.specs.declared.Travel.{Travel}
-use Rattle.chain.specs.declared.Travel.TheVariants.{Unlimited, Within}
 use Rattle.chain.specs.declared.RotaryJoint.{RotaryJoint}
 use Rattle.chain.specs.declared.Kinematics.{Kinematics}
 use Rattle.chain.specs.ChainBytes.{letter_field, carrier_field, limits_field, pivot_field, min_field, max_field, rest_field, length_of_chain, no_rotary}
@@ -42,17 +41,17 @@ abbrev pub carrier_byte : Carrier → ℕ
 carrier_byte Table = 0
 carrier_byte Head = 1
 
-abbrev pub limits_byte : Travel → ℕ
-limits_byte Unlimited = 0
-limits_byte (Within l) = 1
+abbrev pub limits_byte : Option RotaryLimits → ℕ
+limits_byte None = 0
+limits_byte (Some l) = 1
 
-abbrev pub lower : Travel → Float
-lower Unlimited = nought
-lower (Within l) = l.min
+abbrev pub lower : Option RotaryLimits → Float
+lower None = nought
+lower (Some l) = l.min
 
-abbrev pub upper : Travel → Float
-upper Unlimited = nought
-upper (Within l) = l.max
+abbrev pub upper : Option RotaryLimits → Float
+upper None = nought
+upper (Some l) = l.max
 
 -- of 80 bytes the rest angle is the last 8
 unfoldable pub rest_bytes : ℕ → Float → List ℕ

@@ -9,18 +9,11 @@ mod checking;
 mod resting;
 mod writing;
 
-use chain::{Checked, Kinematics};
+use chain::Kinematics;
 use checking::write_check;
 use middle::Tolerances;
 use refusal::Refusal;
 use writing::put_job;
-
-// How many bytes the job has, or why it was not written.
-#[derive(Clone, Copy)]
-pub enum Written {
-    Bytes(usize),
-    Refused(Refusal),
-}
 
 // A refusal keeps the lent bytes, and those behind a job stay. What the reader gets from the job is what was given, and
 // is written again to the same bytes.
@@ -30,16 +23,12 @@ pub fn write_job(
     cone: f64,
     tol: Tolerances,
     out: &mut [u8],
-) -> Written
+) -> Result<usize, Refusal>
     ensures answer { result ≡ S.written_answer k poses.now cone tol (length out.old) }
     ensures lent { out.new ≡ S.written_job k poses.now cone tol out.old }
     ensures read { S.ReadBack k poses.now cone tol (length out.old) }
     ensures again { S.Rewritten k poses.now cone tol (length out.old) }
 {
-    let checked = write_check(k, poses, cone, tol, out.len());
-    if let Checked::Refused(r) = checked {
-        return Written::Refused(r);
-    }
-    let n = put_job(k, poses, cone, tol, out);
-    Written::Bytes(n)
+    write_check(k, poses, cone, tol, out.len())?;
+    Ok(put_job(k, poses, cone, tol, out))
 }

@@ -5,36 +5,33 @@ ghost use Rattle.writer.specs.Writing as S;
 use chain::Kinematics;
 
 // By its bits: -0.0 is not +0.0, and must come back.
+#[tactic(auto, unfolding(crate::specs::Writing::rest_nought))]
 fn rest_nought(rest: f64) -> bool
     ensures { result ≡ S.rest_nought rest }
 {
     job::bits_of(rest) == 0
 }
 
+#[tactic(auto, unfolding(crate::specs::Writing::second_nought))]
 fn second_nought(k: Kinematics) -> bool
     ensures { result ≡ S.second_nought k }
 {
-    let second = k.second;
-    if k.count == 2 {
-        return rest_nought(second.rest);
-    }
-    true
+    k.count != 2 || rest_nought(k.second.rest)
 }
 
 // 0 where every rest angle of the chain is +0.0, else 1.
+#[tactic(auto, unfolding(crate::specs::Writing::word_of))]
 pub fn word_of(k: Kinematics) -> u32
     ensures { result ≡ S.word_of k }
 {
-    let first = k.first;
-    if !rest_nought(first.rest) {
-        return 1;
+    if rest_nought(k.first.rest) && second_nought(k) {
+        0
+    } else {
+        1
     }
-    if !second_nought(k) {
-        return 1;
-    }
-    0
 }
 
+#[tactic(auto, unfolding(crate::specs::Writing::record_of))]
 pub fn record_of(k: Kinematics) -> usize
     ensures length { result ≡ S.record_of k }
     ensures most { result ≤ 80 }

@@ -6,31 +6,24 @@ ghost use Rattle.writer.specs.Checking.{length_of};
 ghost use Rattle.writer.specs.Writing as S;
 
 use crate::resting::{record_of, word_of};
-use chain::{Carrier, Kinematics, RotaryJoint, Travel};
+use chain::{Carrier, Kinematics, RotaryJoint, RotaryLimits};
 use geometry::Vec3;
 use middle::Tolerances;
 
 // ---- numbers
-// A whole number in n bytes, the lowest first.
-fn put_whole(n: usize, x: u64, out: &mut [u8], at: usize)
-    requires { at + n ≤ length out.old }
-    ensures { out.new ≡ written out.old at (S.bytes_of n x) }
+// The lowest four bytes of a whole number, the lowest first.
+fn put_four(x: u64, out: &mut [u8], at: usize)
+    requires { at + 4 ≤ length out.old }
+    ensures { out.new ≡ written out.old at (S.bytes_of 4 x) }
 {
-    let mut rest = x;
-    let mut i = 0;
-    while i < n {
-        out[at + i] = (rest % 256) as u8;
-        rest = rest / 256;
-        i += 1;
-    }
+    job::put_bytes(&x.to_le_bytes()[..4], out, at);
 }
 
 fn put_number(x: f64, out: &mut [u8], at: usize)
     requires { at + 8 ≤ length out.old }
     ensures { out.new ≡ written out.old at (S.number_bytes x) }
 {
-    let bits = job::bits_of(x);
-    put_whole(8, bits, out, at);
+    job::put_bytes(&job::bits_of(x).to_le_bytes(), out, at);
 }
 
 fn put_vector(v: Vec3, out: &mut [u8], at: usize)
@@ -48,12 +41,10 @@ fn put_head(a: u8, b: u8, c: u8, out: &mut [u8], at: usize)
     requires { at + 8 ≤ length out.old }
     ensures { out.new ≡ written out.old at (S.head_bytes a b c) }
 {
-    out[at] = a;
-    out[at + 1] = b;
-    out[at + 2] = c;
-    put_whole(5, 0, out, at + 3);
+    job::put_bytes(&[a, b, c, 0, 0, 0, 0, 0], out, at);
 }
 
+// A byte of the file, so it is written here and not taken from the order of the variants.
 fn carrier_byte(carrier: Carrier) -> u8
     ensures { result ≡ S.carrier_byte carrier }
 {
@@ -63,32 +54,23 @@ fn carrier_byte(carrier: Carrier) -> u8
     }
 }
 
-fn limits_byte(limits: Travel) -> u8
+fn limits_byte(limits: Option<RotaryLimits>) -> u8
     ensures { result ≡ S.limits_byte limits }
 {
-    match limits {
-        Travel::Unlimited => 0,
-        Travel::Within(l) => 1,
-    }
+    limits.is_some() as u8
 }
 
 // The lower limit, +0.0 where there is none; and the upper one.
-fn lower(limits: Travel) -> f64
+fn lower(limits: Option<RotaryLimits>) -> f64
     ensures { result ≡ S.lower limits }
 {
-    match limits {
-        Travel::Unlimited => 0.0,
-        Travel::Within(l) => l.min,
-    }
+    limits.map_or(0.0, |l| l.min)
 }
 
-fn upper(limits: Travel) -> f64
+fn upper(limits: Option<RotaryLimits>) -> f64
     ensures { result ≡ S.upper limits }
 {
-    match limits {
-        Travel::Unlimited => 0.0,
-        Travel::Within(l) => l.max,
-    }
+    limits.map_or(0.0, |l| l.max)
 }
 
 // The rest angle, in a record that has one.
@@ -98,10 +80,10 @@ fn put_rest(w: usize, rest: f64, out: &mut [u8], at: usize)
 {
     if w == 80 {
         put_number(rest, out, at);
-        return;
     }
 }
 
+#[tactic(auto, using(crate::proofs::Texts::wide))]
 fn put_rotary(w: usize, j: RotaryJoint, out: &mut [u8], at: usize)
     requires { S.Width w × (at + w ≤ length out.old) }
     ensures { out.new ≡ written out.old at (S.rotary_bytes w j) }
@@ -122,6 +104,7 @@ fn put_rotary(w: usize, j: RotaryJoint, out: &mut [u8], at: usize)
 
 // ---- the chain
 // Answers where it ends.
+#[tactic(auto, using(crate::proofs::Texts::second_room))]
 fn put_second(w: usize, k: Kinematics, out: &mut [u8], at: usize) -> usize
     requires { S.Width w × (at + length (S.second_bytes w k) ≤ length out.old) }
     ensures end { result ≡ at + length (S.second_bytes w k) }
@@ -134,6 +117,7 @@ fn put_second(w: usize, k: Kinematics, out: &mut [u8], at: usize) -> usize
     at
 }
 
+#[tactic(auto, using(job::proofs::Written::length_put, crate::proofs::Texts::long_chain))]
 fn put_chain(w: usize, k: Kinematics, out: &mut [u8]) -> usize
     requires { S.Width w × (length (S.chain_bytes w k) ≤ length out.old) }
     ensures end { result ≡ length (S.chain_bytes w k) }
@@ -151,11 +135,8 @@ fn put_poses(poses: &[f64], out: &mut [u8], at: usize)
     requires { at + 8 * length poses.now ≤ length out.old }
     ensures { out.new ≡ written out.old at (S.poses_bytes poses.now) }
 {
-    let n = poses.len();
-    let mut i = 0;
-    while i < n {
-        put_number(poses[i], out, at + i * 8);
-        i += 1;
+    for (i, x) in poses.iter().enumerate() {
+        put_number(*x, out, at + i * 8);
     }
 }
 
@@ -172,10 +153,10 @@ fn put_trailer(
     requires { at + 40 ≤ length out.old }
     ensures { out.new ≡ written out.old at (S.trailer_bytes chain count word cone tol) }
 {
-    put_whole(4, 0, out, at);
-    put_whole(4, chain, out, at + 4);
-    put_whole(4, count, out, at + 8);
-    put_whole(4, word, out, at + 12);
+    put_four(0, out, at);
+    put_four(chain, out, at + 4);
+    put_four(count, out, at + 8);
+    put_four(word, out, at + 12);
     put_number(cone, out, at + 16);
     put_number(tol.chord, out, at + 24);
     put_number(tol.axis, out, at + 32);

@@ -1,19 +1,7 @@
-use Prim.Native.Nat.{◌-◌}
 use mathlib.Core.List.{map}
-use Rattle.lists.proofs.Search.{Searching}
-use Rattle.maztubel.specs.Answers.{refuses}
-use Rattle.maztubel.specs.Steps.{answer_of}
+use lib.ListN.{length}
 use Rattle.maztubel.proofs.Laws.{Writing}
 use Rattle.maztubel.proofs.of_each.Given as goal
 
 abbrev pub invariant-loop-i : goal.invariant-loop-i
-invariant-loop-i l = Searching refuses (map (answer_of l.f) l.xs) l.n l.i
-
-abbrev pub decreases-loop-i : goal.decreases-loop-i
-decreases-loop-i l = l.n - l.i
-
-abbrev pub invariant-loop-k : goal.invariant-loop-k
-invariant-loop-k l = Writing (map (answer_of l.f) l.xs) l.initial.answers l.n l.answers l.k
-
-abbrev pub decreases-loop-k : goal.decreases-loop-k
-decreases-loop-k l = l.n - l.k
+invariant-loop-i g l = Writing (map g.F.Answered.answer l.xs) l.initial.answers (length l.xs) l.answers l.i

@@ -2,7 +2,7 @@ use Rattle.probe.proofs.Laws.{rooting_start, rooting_step, rooting_end}
 use Rattle.probe.proofs.probe_roots.Goals as goal
 
 pub loop-i-init : goal.loop-i-init
-loop-i-init c = rooting_start c.shorter-n.ensures
+loop-i-init c = rooting_start c.min-n.ensures
 
 pub loop-i-preserved : goal.loop-i-preserved
 loop-i-preserved c = rooting_step _ c.loop-i-test.true c.loop-i.invariant c.root.ensures

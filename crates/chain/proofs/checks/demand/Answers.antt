@@ -4,4 +4,4 @@ pub returns-then-ok : goal.returns-then-ok
 returns-then-ok c = rw c.if-ok.true
 
 pub returns : goal.returns
-returns c = rw c.if-ok.false
+returns c = rw (c.if-ok.false, c.new.ensures)

@@ -1,10 +1,14 @@
-use Rattle.chain.specs.Check.{has_direction}
+use Rattle.std.proofs.Common.{◌≡◌, refl, ap, ◌∙◌}
+use Rattle.std.specs.Prelude.{Option, Some, None, is_some}
+use Rattle.geometry.specs.declared.Vec3.{Vec3}
+use Rattle.geometry.specs.Direction.{unit_direction}
+use Rattle.chain.specs.Check.{served, has_direction}
 use Rattle.chain.proofs.checks.has_direction.Goals as goal
 
-pub returns-in_default : goal.returns-in_default
-unfolding has_direction
-returns-in_default c = rw (rw c.unit_direction.ensures at c.in_default.is)
+there : (d : Option Vec3) → is_some d ≡ served d
+there (Some u) = refl
+there None = refl
 
 pub returns : goal.returns
 unfolding has_direction
-returns c = rw (rw c.unit_direction.ensures at c.in-Unit.is)
+returns c = c.is_some.ensures ∙ (ap (λ (d : Option Vec3). is_some d) c.unit_direction.ensures ∙ there (unit_direction c.args.v))

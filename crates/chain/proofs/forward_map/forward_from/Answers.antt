@@ -5,8 +5,8 @@ use borrow.Author.Rules.{rules}
 use Rattle.lists.proofs.Tests.{is_after_all, isn't}
 use Rattle.chain.specs.ReadySteps.{forward_counted}
 use Rattle.chain.proofs.Bytes.{at_least_one, product_most}
-use Rattle.chain.proofs.ReadyLaws.{no_bytes, no_count, no_length, ready_counted_lem}
-use Rattle.chain.proofs.ForwardLaws.{numbers_refused, chain_refused, from_ready_lem}
+use Rattle.chain.proofs.ReadyLaws.{no_bytes, no_count, no_length, ready_counted_is}
+use Rattle.chain.proofs.ForwardLaws.{numbers_refused, chain_refused, from_ready_is}
 use Rattle.std.proofs.lemmas.Bool.{not_from_true}
 use Rattle.std.proofs.lemmas.Bool.{not_from_false}
 use Rattle.chain.proofs.forward_map.forward_from.Goals as goal
@@ -41,16 +41,16 @@ returns-then-bytes-w c =
     (sym
     (no_length _ _ _ c.record_length-w.ensures.length c.if-bytes-lt1.false (is_after_all c.one_or_two.ensures (not_from_true _ c.if-not-one_or_two.false)) c.byte_at-count.ensures c.if-bytes-w.true)))
 
-pub forward_counted-requires : goal.forward_counted-requires
-forward_counted-requires c =
+pub invariant_of-forward_counted : goal.invariant_of-forward_counted
+invariant_of-forward_counted c =
     let e = c.if-bytes-w.false in
-    (at_least_one _ (is_after_all c.one_or_two.ensures (not_from_true _ c.if-not-one_or_two.false)), c.record_length-w.ensures.least, omega (arith, e))
+    record { whole = (at_least_one _ (is_after_all c.one_or_two.ensures (not_from_true _ c.if-not-one_or_two.false)), c.record_length-w.ensures.least, omega (arith, e)) }
 
 pub returns : goal.returns
 unfolding forward_counted
 returns c =
     rw c.forward_counted.ensures
-    (from_ready_lem _ _ _ _
+    (from_ready_is _ _ _ _
     (sym
-    (ready_counted_lem _ _ _ c.record_length-w.ensures.length c.if-bytes-lt1.false (is_after_all c.one_or_two.ensures (not_from_true _ c.if-not-one_or_two.false)) (sym c.byte_at-count.ensures) c.if-bytes-w.false))
+    (ready_counted_is _ _ _ c.record_length-w.ensures.length c.if-bytes-lt1.false (is_after_all c.one_or_two.ensures (not_from_true _ c.if-not-one_or_two.false)) (sym c.byte_at-count.ensures) c.if-bytes-w.false))
     (is_after_all c.numbers_good.ensures (not_from_true _ c.if-not-numbers_good.false)))

@@ -5,6 +5,6 @@ pub returns-then-whole_records : goal.returns-then-whole_records
 unfolding four_whole
 returns-then-whole_records c = rw (c.whole_records-then-whole_records.ensures, rw c.whole_records.ensures at c.if-whole_records.true)
 
-pub returns : goal.returns
+pub returns-else-whole_records : goal.returns-else-whole_records
 unfolding four_whole
-returns c = rw (rw c.whole_records.ensures at c.if-whole_records.false)
+returns-else-whole_records c = rw (rw c.whole_records.ensures at c.if-whole_records.false) c.if-whole_records.false

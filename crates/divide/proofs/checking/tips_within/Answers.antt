@@ -1,8 +1,7 @@
-use native.Mathlib.Omega.{arith}
 use Rattle.lists.proofs.Tests.{isn't, is_after_all}
 use Rattle.path.specs.Solving.{pose_from, pose_in, poses_in}
 use Rattle.divide.specs.Checking.{tip_within}
-use Rattle.divide.proofs.Scanning.{scanning_start, scanning_step, scanning_missed, scanning_all}
+use Rattle.turn.proofs.Scanning.{scanning_start, scanning_step, scanning_missed, scanning_all}
 use Rattle.std.proofs.lemmas.Bool.{not_from_true}
 use Rattle.std.proofs.lemmas.Bool.{not_from_false}
 use Rattle.divide.proofs.checking.tips_within.Goals as goal
@@ -10,23 +9,11 @@ use Rattle.divide.proofs.checking.tips_within.Goals as goal
 pub loop-i-init : goal.loop-i-init
 loop-i-init c = scanning_start tip_within 6 pose_from _ _
 
-pub overflow_mul-i : goal.overflow_mul-i
-overflow_mul-i c = omega arith
-
-pub pose_in-pose-requires : goal.pose_in-pose-requires
-pose_in-pose-requires c = omega arith
-
 pub returns-then-not-all_within : goal.returns-then-not-all_within
 unfolding poses_in pose_in tip_within
 returns-then-not-all_within c =
     scanning_missed tip_within 6 pose_from _ _ c.loop-i-test.true c.loop-i.invariant
     (isn't (rw c.pose_in-pose.ensures at c.all_within.ensures) (not_from_false _ c.if-not-all_within.true))
-
-pub overflow_add-i : goal.overflow_add-i
-overflow_add-i c = omega arith
-
-pub loop-i-smaller : goal.loop-i-smaller
-loop-i-smaller c = omega arith
 
 pub loop-i-preserved : goal.loop-i-preserved
 unfolding poses_in pose_in tip_within

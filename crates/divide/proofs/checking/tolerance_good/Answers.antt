@@ -5,6 +5,6 @@ pub returns-then-finite : goal.returns-then-finite
 unfolding tolerance_good
 returns-then-finite c = rw (rw c.finite.ensures at c.if-finite.true)
 
-pub returns : goal.returns
+pub returns-else-finite : goal.returns-else-finite
 unfolding tolerance_good
-returns c = rw (rw c.finite.ensures at c.if-finite.false)
+returns-else-finite c = rw (rw c.finite.ensures at c.if-finite.false) c.if-finite.false

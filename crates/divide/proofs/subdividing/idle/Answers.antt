@@ -6,6 +6,6 @@ pub returns-then-count-eq0 : goal.returns-then-count-eq0
 unfolding idle
 returns-then-count-eq0 c = rw (eq-eqb _ _ c.if-count-eq0.true)
 
-pub returns : goal.returns
+pub returns-else-count-eq0 : goal.returns-else-count-eq0
 unfolding idle
-returns c = rw (ne_eqb _ _ c.if-count-eq0.false)
+returns-else-count-eq0 c = rw (ne_eqb _ _ c.if-count-eq0.false)

@@ -1,44 +1,54 @@
 use native.Mathlib.Omega.{arith}
+use mathlib.Core.Path.{refl, ap, ◌∙◌}
+use Rattle.lists.proofs.Tests.{is}
+use Rattle.extremes.specs.Entries.{found_among}
 use Rattle.extremes.proofs.Groups.{end_is}
-use Rattle.extremes.proofs.Searching.{groups_start, groups_found, groups_step, groups_end, room_in}
+use Rattle.extremes.proofs.Searching.{among_none, found_below, found_none, found_further, groups_start, groups_found, groups_step, groups_end, groups_before, groups_over, next_start, at_start, room_in}
 use Rattle.extremes.proofs.asking.first_above.Goals as goal
 
-pub loop-k-init : goal.loop-k-init
-loop-k-init c = (c.requires, groups_start)
+pub loop-g-init : goal.loop-g-init
+loop-g-init c = groups_start
 
 pub group_end-end-requires : goal.group_end-end-requires
-group_end-end-requires c = omega arith
+group_end-end-requires c =
+    let p = groups_before _ _ (rw c.group_count-g-end.ensures at c.loop-g-test.true) in
+    omega (arith, p)
 
-pub in_group-i-requires : goal.in_group-i-requires
-in_group-i-requires c =
-    let h = c.loop-k-test.true in
-    let v = c.loop-k.invariant in
-    let p = end_is _ _ h (v.1.starts h) in
+pub in_group-found-requires : goal.in_group-found-requires
+in_group-found-requires c =
+    let t = rw c.group_count-g-end.ensures at c.loop-g-test.true in
+    let h = groups_before _ _ t in
+    let p = end_is _ _ h ((at_start t c.loop-g.invariant).starts h) in
     let e = c.group_end-end.ensures in
     let a = p.0 in
     let b = p.1.0 in
     let r = room_in _ _ h in
-    let j = v.0.0 in
-    let s = v.0.1 in
+    let j = c.requires.0 in
+    let s = c.requires.1 in
     ((omega (arith, a, e), omega (arith, b, e, j)), omega (arith, r, s))
 
-pub returns-then-i-end : goal.returns-then-i-end
-returns-then-i-end c =
-    groups_found c.loop-k-test.true c.loop-k.invariant.1 c.group_end-end.ensures c.in_group-i.ensures c.if-i-end.true
-
-pub loop-k-smaller : goal.loop-k-smaller
-loop-k-smaller c =
-    let h = c.loop-k-test.true in
-    let p = end_is _ _ h (c.loop-k.invariant.1.starts h) in
+pub returns-then-is_some : goal.returns-then-is_some
+returns-then-is_some c =
+    let t = rw c.group_count-g-end.ensures at c.loop-g-test.true in
+    let h = groups_before _ _ t in
+    let g = at_start t c.loop-g.invariant in
+    let below = found_below c.in_group-found.ensures (is c.is_some.ensures c.if-is_some.true) in
+    let p = end_is _ _ h (g.starts h) in
     let e = c.group_end-end.ensures in
-    let a = p.0 in
-    omega (arith, h, a, e)
+    let b = p.1.0 in
+    c.in_group-found.ensures
+    ∙ found_further below (omega (arith, b, e))
+    ∙ ap (found_among c.args.n) (groups_found h g e refl below)
 
-pub loop-k-preserved : goal.loop-k-preserved
-loop-k-preserved c = (
-  c.loop-k.invariant.0,
-  groups_step c.loop-k-test.true c.loop-k.invariant.1 c.group_end-end.ensures c.in_group-i.ensures c.if-i-end.false,
-)
+pub loop-g-preserved : goal.loop-g-preserved
+loop-g-preserved c =
+    let t = rw c.group_count-g-end.ensures at c.loop-g-test.true in
+    let h = groups_before _ _ t in
+    rw (next_start _ _ h, ← c.group_end-end.ensures)
+    (groups_step h (at_start t c.loop-g.invariant) c.group_end-end.ensures refl
+    (found_none c.in_group-found.ensures (is c.is_some.ensures c.if-is_some.false)))
 
 pub returns : goal.returns
-returns c = groups_end c.loop-k-test.false c.loop-k.invariant.1
+returns c =
+    let t = rw c.group_count-g-end.ensures at c.loop-g-test.false in
+    among_none (omega arith) ∙ ap (found_among c.args.n) (groups_end (rw (groups_over _ _ t) at c.loop-g.invariant))

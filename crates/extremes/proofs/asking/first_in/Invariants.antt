@@ -1,11 +1,6 @@
-use Prim.Native.Nat.{◌-◌, ◌*◌, ◌≤◌}
-use lib.ListN.{length}
 use Rattle.extremes.specs.Asking.{above_at}
 use Rattle.extremes.proofs.Searching.{Going}
 use Rattle.extremes.proofs.asking.first_in.Given as goal
 
 abbrev pub invariant-loop-i : goal.invariant-loop-i
-invariant-loop-i l = (l.end * 5 ≤ length l.joints) × Going (above_at l.rotary l.angle l.joints) l.from l.end l.i
-
-abbrev pub decreases-loop-i : goal.decreases-loop-i
-decreases-loop-i l = l.end - l.i
+invariant-loop-i l = Going (above_at l.rotary l.angle l.joints) l.from l.end l.i

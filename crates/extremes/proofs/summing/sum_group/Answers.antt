@@ -4,23 +4,11 @@ use Rattle.extremes.proofs.Groups.{group_end_is}
 use Rattle.extremes.proofs.Building.{group_summed}
 use Rattle.extremes.proofs.summing.sum_group.Goals as goal
 
-pub overflow_mul-from : goal.overflow_mul-from
-overflow_mul-from c = omega arith
-
-pub group_end-end-requires : goal.group_end-end-requires
-group_end-end-requires c = omega arith
-
 pub extremes_at-e-requires : goal.extremes_at-e-requires
 extremes_at-e-requires c =
     let p = group_end_is _ _ c.requires.0 in
     let e = c.group_end-end.ensures in
     (omega (arith, p, e), omega (arith, p, e))
-
-pub put_extremes-requires : goal.put_extremes-requires
-put_extremes-requires c = omega arith
-
-pub shape_of-summary : goal.shape_of-summary
-shape_of-summary c = omega arith
 
 pub returns : goal.returns
 returns c =

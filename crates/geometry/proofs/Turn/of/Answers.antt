@@ -7,4 +7,4 @@ returns-in_default c = rw (simp c.of_degrees.ensures.name at c.in_default.is)
 
 pub returns : goal.returns
 unfolding turn_of
-returns c = rw (simp c.of_degrees.ensures.name at c.in-Values.is)
+returns c = rw (simp c.of_degrees.ensures.name at c.in-Some.is)

@@ -13,4 +13,4 @@ returns-then-len c = rw (rw c.finite.ensures at (not_from_true _ c.if-not-finite
 
 pub returns : goal.returns
 unfolding with_length
-returns c = rw (c.scale.ensures, rw c.finite.ensures at (not_from_true _ c.if-not-finite.false), c.if-len.false)
+returns c = rw (c.mul.ensures, rw c.finite.ensures at (not_from_true _ c.if-not-finite.false), c.if-len.false)

@@ -7,8 +7,8 @@ returns-in_default c = rw (rw c.unit_direction.ensures at c.in_default.is)
 
 pub returns-in_default-unit_direction : goal.returns-in_default-unit_direction
 unfolding slerp_axis
-returns-in_default-unit_direction c = rw (rw c.unit_direction.ensures at c.in-Unit.is, rw c.unit_direction-2.ensures at c.in_default-unit_direction.is)
+returns-in_default-unit_direction c = rw (rw c.unit_direction.ensures at c.in-Some.is, rw c.unit_direction-2.ensures at c.in_default-unit_direction.is)
 
 pub returns : goal.returns
 unfolding slerp_axis
-returns c = rw (c.slerp_cosine.ensures, c.clamp_unit-cosine.ensures, c.dot.ensures, rw c.unit_direction.ensures at c.in-Unit.is, rw c.unit_direction-2.ensures at c.in-Unit-unit_direction.is)
+returns c = rw (c.slerp_cosine.ensures, c.clamp_unit-cosine.ensures, c.dot.ensures, rw c.unit_direction.ensures at c.in-Some.is, rw c.unit_direction-2.ensures at c.in-Some-unit_direction.is)

@@ -1,20 +1,27 @@
 use Rattle.std.proofs.Common.{sym, ◌∙◌}
-use Rattle.lists.proofs.Tests.{isn't, is_after_all}
-use Rattle.hirth.proofs.Exactly.{tolerance_first, after_choose_lem, after_solution, told}
-use Rattle.std.proofs.lemmas.Bool.{not_from_true}
-use Rattle.std.proofs.lemmas.Bool.{not_from_false}
+use Rattle.std.proofs.lemmas.Result.{err_from_is_err_and}
+use Rattle.lists.proofs.Tests.{is}
+use Rattle.chain.proofs.Passing.{demand_passed}
+use Rattle.hirth.proofs.Exactly.{tolerance_first, refused_first, after_solution, told}
 use Rattle.hirth.proofs.profile.choose_tooth.Goals as goal
 
-pub returns-then-not-tolerance_good : goal.returns-then-not-tolerance_good
-returns-then-not-tolerance_good c = let all = told _ _ _ _ _ _ (tolerance_first _ _ _ _ _ (isn't c.tolerance_good.ensures (not_from_false _ c.if-not-tolerance_good.true))) in record { name = all.0; promised = all.1 }
+pub returns-in_err-demand : goal.returns-in_err-demand
+returns-in_err-demand c =
+    let p = err_from_is_err_and c.from_residual.result c.from_residual.ensures.1 in
+    let bad = rw c.tolerance_good.ensures at (is c.demand.ensures c.in_err-demand.was) in
+    let all = told _ _ _ _ _ _ (rw (p.1, p.2) (tolerance_first _ _ _ _ _ bad)) in
+    record { name = all.0; promised = all.1 }
 
-pub returns-in-At : goal.returns-in-At
-returns-in-At c = let all = told _ _ _ _ _ _
-    (after_solution _ _ _ _ _ _ (is_after_all c.tolerance_good.ensures (not_from_true _ c.if-not-tolerance_good.false))
-    (sym c.choose-chosen.ensures ∙ c.in-At.is)
-    ∙ sym c.toothed.ensures) in record { name = all.0; promised = all.1 }
+pub returns-in_err-j : goal.returns-in_err-j
+returns-in_err-j c =
+    let p = err_from_is_err_and c.from_residual-in_err-j.result c.from_residual-in_err-j.ensures.1 in
+    let good = demand_passed c.tolerance_good.result _ _ (is c.demand.ensures c.in_ok-demand.was) in
+    let all = told _ _ _ _ _ _ (rw (p.1, p.2) (refused_first _ _ _ _ _ _ (is c.tolerance_good.ensures good) (is c.choose.ensures c.in_err-j.was))) in
+    record { name = all.0; promised = all.1 }
 
-pub returns-in-Refused : goal.returns-in-Refused
-returns-in-Refused c = let all = told _ _ _ _ _ _
-    (after_choose_lem _ _ _ _ _ _ (is_after_all c.tolerance_good.ensures (not_from_true _ c.if-not-tolerance_good.false))
-    (sym c.choose-chosen.ensures ∙ c.in-Refused.is)) in record { name = all.0; promised = all.1 }
+pub returns : goal.returns
+returns c =
+    let good = demand_passed c.tolerance_good.result _ _ (is c.demand.ensures c.in_ok-demand.was) in
+    let solution = after_solution _ _ _ _ _ _ (is c.tolerance_good.ensures good) (is c.choose.ensures c.in_ok-j.was) in
+    let all = told _ _ _ _ _ _ (solution ∙ sym c.toothed.ensures) in
+    record { name = all.0; promised = all.1 }

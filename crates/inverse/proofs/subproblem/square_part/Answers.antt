@@ -3,4 +3,4 @@ use Rattle.inverse.proofs.subproblem.square_part.Goals as goal
 
 pub returns : goal.returns
 unfolding square_part
-returns c = rw (c.sub.ensures, c.scale.ensures)
+returns c = rw (c.sub.ensures, c.mul.ensures)

@@ -1,34 +1,15 @@
-use mathlib.Core.Path.{◌≡◌}
 use native.Mathlib.Omega.{arith}
-use borrow.Author.Rules.{rules}
-use lib.ListN.{length}
-use Rattle.lists.proofs.Fold.{folding_start, folding_step, folding_end}
+use Rattle.lists.proofs.Fold.{folding_start, folding_step}
+use Rattle.lists.proofs.Library.{folding_all}
 use Rattle.inverse.specs.Wraps.{add_row}
 use Rattle.inverse.proofs.wraps.add_row.Goals as goal
 
-pub loop-k-init : goal.loop-k-init
-loop-k-init c =
-    let h : length c.args.second.items ≡ 5 = search rules in
-    (omega arith, omega arith, omega arith, folding_start (omega arith))
+pub loop-a1-init : goal.loop-a1-init
+loop-a1-init c = record { count = omega arith; list = folding_start (omega arith) }
 
-pub offset_bounds-items-k : goal.offset_bounds-items-k
-offset_bounds-items-k c = omega arith
-
-pub bounds-items-k : goal.bounds-items-k
-bounds-items-k c = omega arith
-
-pub add_pair-out-requires : goal.add_pair-out-requires
-add_pair-out-requires c = omega arith
-
-pub overflow_add-k : goal.overflow_add-k
-overflow_add-k c = omega arith
-
-pub loop-k-smaller : goal.loop-k-smaller
-loop-k-smaller c = omega arith
-
-pub loop-k-preserved : goal.loop-k-preserved
-loop-k-preserved c = (omega arith, omega arith, omega arith, folding_step _ c.loop-k-test.true c.loop-k.invariant.3 c.add_pair-out.ensures.1)
+pub loop-a1-preserved : goal.loop-a1-preserved
+loop-a1-preserved c = record { count = omega arith; list = folding_step _ (omega arith) c.loop-a1.invariant.list c.add_pair.ensures.list }
 
 pub returns : goal.returns
 unfolding add_row
-returns c = (omega arith, folding_end c.loop-k-test.false c.loop-k.invariant.3)
+returns c = record { list = folding_all (omega arith) c.loop-a1.invariant.list; count = omega arith }

@@ -1,32 +1,18 @@
+use mathlib.Core.Path.{ap}
 use native.Mathlib.Omega.{arith}
-use Rattle.lists.specs.Fold.{fold}
+use lib.ListN.{length}
+use lib.Dec.{lit≤}
+use Rattle.lists.proofs.Fold.{folding_start, folding_step}
+use Rattle.lists.proofs.Library.{folding_all}
 use Rattle.inverse.specs.Wraps.{angle_candidates}
 use Rattle.inverse.proofs.wraps.angle_candidates.Goals as goal
 
-pub keep_allowed-two_back-requires : goal.keep_allowed-two_back-requires
-keep_allowed-two_back-requires c = omega arith
+pub loop-turns-init : goal.loop-turns-init
+loop-turns-init c = record { count = omega (arith, ap length c.new-kept.ensures); list = rw c.new-kept.ensures (folding_start (lit≤ tt)) }
 
-pub keep_allowed-one_back-requires : goal.keep_allowed-one_back-requires
-keep_allowed-one_back-requires c = omega arith
-
-pub keep_allowed-as_it_is-requires : goal.keep_allowed-as_it_is-requires
-keep_allowed-as_it_is-requires c = omega arith
-
-pub keep_allowed-one_on-requires : goal.keep_allowed-one_on-requires
-keep_allowed-one_on-requires c = omega arith
-
-pub keep_allowed-requires : goal.keep_allowed-requires
-keep_allowed-requires c = omega arith
+pub loop-turns-preserved : goal.loop-turns-preserved
+loop-turns-preserved c = record { count = omega arith; list = folding_step _ (omega arith) c.loop-turns.invariant.list c.keep_allowed.ensures.list }
 
 pub returns : goal.returns
-unfolding angle_candidates fold
-returns c = (
-  omega arith,
-  rw (
-    c.keep_allowed.ensures.1,
-    c.keep_allowed-one_on.ensures.1,
-    c.keep_allowed-as_it_is.ensures.1,
-    c.keep_allowed-one_back.ensures.1,
-    c.keep_allowed-two_back.ensures.1,
-  ),
-)
+unfolding angle_candidates
+returns c = record { list = folding_all (omega arith) c.loop-turns.invariant.list; count = omega arith }

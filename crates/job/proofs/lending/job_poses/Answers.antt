@@ -1,27 +1,31 @@
-use Rattle.std.proofs.Common.{arith, eq-eqb, ne_eqb}
+use Rattle.std.proofs.Common.{arith}
+use Rattle.std.proofs.lemmas.Result.{err_from_is_err_and}
 use Rattle.lists.proofs.Tests.{is}
+use Rattle.chain.proofs.Passing.{demand_passed}
 use Rattle.job.specs.JobPoses.{poses_check, job_poses}
 use Rattle.job.proofs.JobWithin.{within}
 use Rattle.job.proofs.lending.job_poses.Goals as goal
 
-pub returns-then-out-ne0 : goal.returns-then-out-ne0
+pub returns-in_err-demand : goal.returns-in_err-demand
 unfolding poses_check job_poses
-returns-then-out-ne0 c =
-    let e = ne_eqb _ _ c.if-out-ne0.true in record { checked = rw e; lent = rw e }
+returns-in_err-demand c =
+    let p = err_from_is_err_and c.from_residual.result c.from_residual.ensures.1 in
+    let e = is c.demand.ensures c.in_err-demand.was in record { checked = rw (p.1, p.2, e); lent = rw e }
+
+pub returns-in_err-j : goal.returns-in_err-j
+unfolding poses_check job_poses
+returns-in_err-j c =
+    let p = err_from_is_err_and c.from_residual-in_err-j.result c.from_residual-in_err-j.ensures.1 in
+    let e = demand_passed _ _ _ (is c.demand.ensures c.in_ok-demand.was) in
+    let f = is c.read_job.ensures c.in_err-j.was in record { checked = rw (p.1, p.2, e, f); lent = rw (e, f) }
 
 pub lend-requires : goal.lend-requires
 lend-requires c =
-    let h = (within _ _ (is c.read_job.ensures c.in-Job.is)).poses_in_lem in
+    let h = (within _ _ (is c.read_job.ensures c.in_ok-j.was)).poses_inside in
     omega (arith, h)
 
-pub returns-in-Job : goal.returns-in-Job
+pub returns : goal.returns
 unfolding poses_check job_poses
-returns-in-Job c =
-    let e = eq-eqb _ _ c.if-out-ne0.false in
-    let f = rw c.read_job.ensures at c.in-Job.is in record { checked = rw (e, f) c.lend.ensures.checked; lent = rw (e, f) c.lend.ensures.lent }
-
-pub returns-in-Refused : goal.returns-in-Refused
-unfolding poses_check job_poses
-returns-in-Refused c =
-    let e = eq-eqb _ _ c.if-out-ne0.false in
-    let f = rw c.read_job.ensures at c.in-Refused.is in record { checked = rw (e, f); lent = rw (e, f) }
+returns c =
+    let e = demand_passed _ _ _ (is c.demand.ensures c.in_ok-demand.was) in
+    let f = is c.read_job.ensures c.in_ok-j.was in record { checked = rw (e, f) c.lend.ensures.checked; lent = rw (e, f) c.lend.ensures.lent }

@@ -1,4 +1,4 @@
-use Rattle.std.proofs.Common.{sym, arith}
+use Rattle.std.proofs.Common.{sym}
 use Rattle.job.proofs.Lines.{fitting_start, fitting_step, fitting_none, fitting_end, no_room}
 use Rattle.job.proofs.telling.lines_fit.Goals as goal
 
@@ -8,17 +8,8 @@ returns-then-room-used c = sym (no_room _ _ _ c.if-room-used.true)
 pub loop-i-init : goal.loop-i-init
 loop-i-init c = fitting_start _ _ _ c.if-room-used.false
 
-pub overflow_add-needed : goal.overflow_add-needed
-overflow_add-needed c = omega arith
-
 pub returns-then-left-needed : goal.returns-then-left-needed
 returns-then-left-needed c = sym (fitting_none c.loop-i.invariant c.loop-i-test.true c.width-needed.ensures.width c.if-left-needed.true)
-
-pub overflow_add-i : goal.overflow_add-i
-overflow_add-i c = omega arith
-
-pub loop-i-smaller : goal.loop-i-smaller
-loop-i-smaller c = omega arith
 
 pub loop-i-preserved : goal.loop-i-preserved
 loop-i-preserved c = fitting_step c.loop-i.invariant c.loop-i-test.true c.width-needed.ensures.width c.if-left-needed.false

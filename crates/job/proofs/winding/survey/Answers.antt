@@ -1,21 +1,8 @@
-use Rattle.std.proofs.Common.{arith}
 use Rattle.job.proofs.Surveying.{surveying_start, surveying_step, surveying_end}
 use Rattle.job.proofs.winding.survey.Goals as goal
 
 pub loop-i-init : goal.loop-i-init
 loop-i-init c = surveying_start _ _ c.args.joints.now
-
-pub overflow_mul-i : goal.overflow_mul-i
-overflow_mul-i c = omega arith
-
-pub joints_in-j-requires : goal.joints_in-j-requires
-joints_in-j-requires c = omega arith
-
-pub overflow_add-i : goal.overflow_add-i
-overflow_add-i c = omega arith
-
-pub loop-i-smaller : goal.loop-i-smaller
-loop-i-smaller c = omega arith
 
 pub loop-i-preserved : goal.loop-i-preserved
 loop-i-preserved c =

@@ -1,5 +1,5 @@
 use Rattle.job.specs.Cable.{turns_within}
-use Rattle.job.proofs.Turns.{in_range, whole_turns_lem}
+use Rattle.job.proofs.Turns.{in_range, turns_counted}
 use Rattle.job.proofs.winding.turns_within.Goals as goal
 
 pub truncating_f64_to_u64-requires : goal.truncating_f64_to_u64-requires
@@ -9,7 +9,7 @@ pub returns-then-within : goal.returns-then-within
 unfolding turns_within
 returns-then-within c =
     let e = rw c.within.ensures at c.if-within.true in
-    rw (c.truncating_f64_to_u64.ensures, c.size-size.ensures, e) (whole_turns_lem _ e)
+    rw (c.truncating_f64_to_u64.ensures, c.size-size.ensures, e) (turns_counted _ e)
 
 pub returns : goal.returns
 unfolding turns_within

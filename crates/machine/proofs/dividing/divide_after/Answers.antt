@@ -1,23 +1,13 @@
 use native.Mathlib.Omega.{arith}
 use mathlib.Core.Path.{◌∙◌}
-use Rattle.machine.proofs.Divides.{staying_fits, begun_ready, begun_ran, left_so}
+use Rattle.machine.proofs.Divides.{begun_ready, begun_ran, left_so}
 use Rattle.machine.proofs.dividing.divide_after.Goals as goal
-
-pub bring-requires : goal.bring-requires
-bring-requires c = c.requires.1
-
-pub begin-m-requires : goal.begin-m-requires
-begin-m-requires c = omega (arith, c.bring.auto.poses, c.bring.auto.joints, c.requires)
 
 pub run-turn-requires : goal.run-turn-requires
 run-turn-requires c =
     rw c.begin-m.ensures
     (begun_ready _ _ _ _ _ _ _ _ _ c.requires.0 c.requires.1.0.0 c.requires.1.0.1 c.bring.ensures.first c.bring.ensures.rest
     (omega (arith, c.bring.auto.poses, c.bring.auto.joints, c.requires)) (omega (arith, c.bring.auto.poses, c.bring.auto.joints, c.requires)))
-
-pub close-requires : goal.close-requires
-close-requires c =
-    staying_fits c.run-turn.ensures (omega (arith, c.run-turn.auto.poses, c.run-turn.auto.joints, c.bring.auto.poses, c.bring.auto.joints, c.requires)) (omega (arith, c.run-turn.auto.poses, c.run-turn.auto.joints, c.bring.auto.poses, c.bring.auto.joints, c.requires))
 
 pub returns : goal.returns
 returns c = let all = left_so _ _

@@ -2,12 +2,6 @@ use native.Mathlib.Omega.{arith}
 use Rattle.machine.proofs.Pairs.{pair_filled, counted_most}
 use Rattle.machine.proofs.filling.fill_space.Goals as goal
 
-pub put_item-requires : goal.put_item-requires
-put_item-requires c = omega (arith, c.requires)
-
-pub put_item-requires-2 : goal.put_item-requires-2
-put_item-requires-2 c = omega (arith, c.put_item.auto, c.requires)
-
 pub divide_after-said-requires : goal.divide_after-said-requires
 divide_after-said-requires c =
     let m = counted_most _ c.counted.ensures in

@@ -1,34 +1,22 @@
-use native.Mathlib.Omega.{arith}
-use Rattle.lists.proofs.Tests.{isn't, is_after_all}
+use mathlib.Core.Path.{◌≡◌, ◌∙◌}
+use mathlib.Core.Bool.{Bool}
+use Rattle.std.proofs.Common.{rules}
+use Rattle.std.specs.List.{list_all}
+use Rattle.std.proofs.lemmas.Iterator.Consumers.{YieldsList-from_first}
+use Rattle.std.proofs.lemmas.Iterator.Search.{all_from_yields_List}
+use Rattle.model.specs.declared.Link.{Link}
+use Rattle.model.specs.Model.{links_of}
+use Rattle.model.proofs.Links.{left, all_is}
 use Rattle.meet.specs.Checking.{small_link}
-use Rattle.meet.proofs.Filling.{testing_start, testing_step, testing_missed, testing_end}
-use Rattle.std.proofs.lemmas.Bool.{not_from_true}
-use Rattle.std.proofs.lemmas.Bool.{not_from_false}
 use Rattle.meet.proofs.checking.solids_within.Goals as goal
 
-pub loop-at-init : goal.loop-at-init
-loop-at-init c = testing_start _ _
-
-pub link_at-link-requires : goal.link_at-link-requires
-link_at-link-requires c = omega arith
-
-pub small_solid_at-requires : goal.small_solid_at-requires
-small_solid_at-requires c = omega arith
-
-pub returns-then-not-small_solid_at : goal.returns-then-not-small_solid_at
-unfolding small_link
-returns-then-not-small_solid_at c =
-    testing_missed _ _ c.loop-at-test.true c.link_at-link.ensures.0 c.loop-at.invariant
-    (isn't c.small_solid_at.ensures (not_from_false _ c.if-not-small_solid_at.true))
-
-pub loop-at-smaller : goal.loop-at-smaller
-loop-at-smaller c = omega arith
-
-pub loop-at-preserved : goal.loop-at-preserved
-unfolding small_link
-loop-at-preserved c =
-    testing_step _ _ c.loop-at-test.true c.link_at-link.ensures.0 c.loop-at.invariant
-    (is_after_all c.small_solid_at.ensures (not_from_true _ c.if-not-small_solid_at.false))
-
 pub returns : goal.returns
-returns c = testing_end _ _ c.loop-at-test.false c.loop-at.invariant
+unfolding small_link
+returns c =
+    let test : Link → Bool = small_link c.args.bytes.now in
+    let e : c.all.result ≡ list_all test (links_of c.args.bytes.now) =
+    all_from_yields_List test c.all.new.self _ _ c.all.ensures.ran
+    (YieldsList-from_first (λ (x : Link). x) left (links_of c.args.bytes.now) c.links_in.ensures)
+    (search rules)
+    in
+    e ∙ all_is test _

@@ -1,12 +1,8 @@
-use Prim.Native.Nat.{◌+◌, ◌-◌, ◌*◌, ◌≤◌}
 use mathlib.Core.Path.{◌≡◌}
-use lib.ListN.{length}
-use Rattle.meet.proofs.Seeking.{Pairing}
+use lib.ListN.{drop}
+use Rattle.meet.specs.Meeting.{first_pair}
+use Rattle.meet.specs.MeetingSteps.{near}
 use Rattle.meet.proofs.pairs.first_pair.Given as goal
 
-abbrev pub invariant-loop-i : goal.invariant-loop-i
-invariant-loop-i l = (l.n ≤ 64) × (length l.items ≡ 64) × Pairing l.items l.n l.i l.k
-
--- every ball but one can still be tested with each of those before it
-abbrev pub decreases-loop-i : goal.decreases-loop-i
-decreases-loop-i l = (l.n - l.i) * 66 + (l.n + 1 - l.k)
+abbrev pub invariant-loop-first : goal.invariant-loop-first
+invariant-loop-first l = first_pair near 0 l.balls ≡ first_pair near l.first (drop l.first l.balls)

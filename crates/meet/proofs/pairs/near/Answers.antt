@@ -1,11 +1,11 @@
-use Rattle.meet.specs.MeetingSteps.{near}
-use borrow.Author.Tests.{eq-eqb, ne_eqb}
+use mathlib.Core.Path.{◌≡◌}
+use mathlib.Core.Bool.{false}
+use Rattle.std.proofs.Common.{rules}
+use Rattle.meet.specs.MeetingSteps.{same_kind, near}
 use Rattle.meet.proofs.pairs.near.Goals as goal
 
-pub returns-then-left-right : goal.returns-then-left-right
+pub returns-then-ne : goal.returns-then-ne
 unfolding near
-returns-then-left-right c = rw (eq-eqb _ _ c.if-left-right.true)
-
-pub returns : goal.returns
-unfolding near
-returns c = rw (c.gap_vec.ensures, ne_eqb _ _ c.if-left-right.false)
+returns-then-ne c =
+    let e : same_kind c.args.left.kind c.args.right.kind ≡ false = search (rules, c.ne.ensures, c.if-ne.true) in
+    rw (c.gap_vec.ensures, e)

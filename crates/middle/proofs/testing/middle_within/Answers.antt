@@ -5,6 +5,6 @@ pub returns-then-tip_gap-tol : goal.returns-then-tip_gap-tol
 unfolding middle_within
 returns-then-tip_gap-tol c = rw (c.axis_gap.ensures, rw c.tip_gap.ensures at c.if-tip_gap-tol.true)
 
-pub returns : goal.returns
+pub returns-else-tip_gap-tol : goal.returns-else-tip_gap-tol
 unfolding middle_within
-returns c = rw (rw c.tip_gap.ensures at c.if-tip_gap-tol.false)
+returns-else-tip_gap-tol c = rw (rw c.tip_gap.ensures at c.if-tip_gap-tol.false) c.if-tip_gap-tol.false

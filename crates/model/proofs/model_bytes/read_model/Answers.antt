@@ -1,33 +1,19 @@
-use native.Mathlib.Omega.{arith}
-use mathlib.Core.Path.{refl, sym, ◌∙◌}
+use mathlib.Core.Path.{sym, ◌∙◌}
 use Rattle.lists.proofs.Tests.{is}
-use Rattle.model.specs.Model.{links_of, model_fields}
-use Rattle.model.proofs.Links.{read_whole, read_grows, read_breach, fields_passed, fields_refused, fields_end}
+use Rattle.std.proofs.lemmas.Result.{err_from_is_err_and}
+use Rattle.model.specs.Model.{model_fields}
+use Rattle.model.proofs.Links.{fields_refused}
 use Rattle.model.proofs.model_bytes.read_model.Goals as goal
 
-pub loop-at-init : goal.loop-at-init
-loop-at-init c = refl
-
-pub read_link-read-requires : goal.read_link-read-requires
-read_link-read-requires c = omega arith
-
-pub returns-in-Refused : goal.returns-in-Refused
-unfolding model_fields links_of
-returns-in-Refused c =
-    sym
-    (c.loop-at.invariant
-    ∙ fields_refused _ _ _ _ c.loop-at-test.true refl _
-    (read_breach _ _ (is c.read_link-read.ensures c.in-Refused.is)))
-
-pub loop-at-smaller : goal.loop-at-smaller
-loop-at-smaller c = let h = read_grows _ _ (is c.read_link-read.ensures c.in-Link.is) in omega arith
-
-pub loop-at-preserved : goal.loop-at-preserved
-loop-at-preserved c =
-    let g = read_whole _ _ (is c.read_link-read.ensures c.in-Link.is) in
-    c.loop-at.invariant
-    ∙ fields_passed _ _ _ _ c.loop-at-test.true g.0 _ g.1
+pub returns-in_err-link_fields : goal.returns-in_err-link_fields
+unfolding model_fields
+returns-in_err-link_fields c =
+    let p = err_from_is_err_and c.from_residual.result c.from_residual.ensures.1 in
+    rw (p.1, p.2)
+    (sym
+    (c.loop-link.invariant
+    ∙ fields_refused _ c.in-Some.ensures.steps (is c.link_fields.ensures c.in_err-link_fields.was)))
 
 pub returns : goal.returns
-unfolding model_fields links_of
-returns c = sym (c.loop-at.invariant ∙ fields_end _ _ _ c.loop-at-test.false _)
+unfolding model_fields
+returns c = sym (c.loop-link.invariant ∙ rw c.in-None.ensures.steps.0)

@@ -1,14 +1,10 @@
-use Prim.Native.Nat.{◌-◌}
 use mathlib.Core.Path.{◌≡◌}
 use mathlib.Core.List.{map}
-use lib.ListN.{length}
 use Rattle.chain.specs.Check.{first_refusal}
-use Rattle.model.specs.Model.{link_fields, links}
+use Rattle.model.specs.Model.{link_fields, links, links_of}
 use Rattle.model.proofs.model_bytes.read_model.Given as goal
 
-abbrev pub invariant-loop-at : goal.invariant-loop-at
-invariant-loop-at l =
-    first_refusal (map (link_fields l.bytes) (links l.bytes 0 (length l.bytes))) ≡ first_refusal (map (link_fields l.bytes) (links l.bytes l.at (length l.bytes)))
-
-abbrev pub decreases-loop-at : goal.decreases-loop-at
-decreases-loop-at l = length l.bytes - l.at
+abbrev pub invariant-loop-link : goal.invariant-loop-link
+invariant-loop-link l =
+    first_refusal (map (link_fields l.bytes) (links_of l.bytes))
+    ≡ first_refusal (map (link_fields l.bytes) (links l.link-iterator.bytes.now l.link-iterator.at l.link-iterator.to))

@@ -1,15 +1,17 @@
-use Prim.Native.Nat.{◌-◌, ◌≤◌}
 use mathlib.Core.Path.{◌≡◌}
 use lib.ListN.{length}
 use Rattle.chain.specs.Check.{first_refusal}
-use Rattle.model.specs.Model.{links}
+use Rattle.model.specs.Model.{links, links_of}
 use Rattle.model.specs.ModelCheck.{link_checks}
+use Rattle.model.proofs.Links.{NamesBelow}
 use Rattle.model.proofs.model_check.each_link.Given as goal
 
-abbrev pub invariant-loop-at : goal.invariant-loop-at
-invariant-loop-at l =
-    (l.index ≤ l.at)
-    × (first_refusal (link_checks l.k l.bytes 0 (links l.bytes 0 (length l.bytes))) ≡ first_refusal (link_checks l.k l.bytes l.index (links l.bytes l.at (length l.bytes))))
-
-abbrev pub decreases-loop-at : goal.decreases-loop-at
-decreases-loop-at l = length l.bytes - l.at
+abbrev pub invariant-loop-index : goal.invariant-loop-index
+invariant-loop-index l =
+    let it = l.index-iterator.iter in
+    record {
+      within : NamesBelow (length l.bytes) (links it.bytes.now it.at it.to);
+      rest :
+          first_refusal (link_checks l.k l.bytes 0 (links_of l.bytes))
+          ≡ first_refusal (link_checks l.k l.bytes l.index-iterator.count (links it.bytes.now it.at it.to));
+    }

@@ -1,35 +1,23 @@
-use native.Mathlib.Omega.{arith}
-use mathlib.Core.Path.{refl, sym, ◌∙◌}
-use Rattle.lists.proofs.Tests.{is}
+use mathlib.Core.Path.{◌≡◌, ◌∙◌}
+use mathlib.Core.Bool.{Bool}
+use Rattle.std.proofs.Common.{rules}
+use Rattle.std.specs.List.{list_any}
+use Rattle.std.proofs.lemmas.Iterator.Consumers.{YieldsList-from_first}
+use Rattle.std.proofs.lemmas.Iterator.Search.{any_from_yields_List}
+use Rattle.model.specs.declared.Link.{Link}
+use Rattle.model.specs.declared.LinkIter.{LinkIter}
+use Rattle.model.specs.Model.{links}
+use Rattle.model.specs.ModelCheck as S
 use Rattle.model.specs.ModelCheck.{named_before}
-use Rattle.model.proofs.Links.{not_this, this_one, no_more}
+use Rattle.model.proofs.Links.{any_is}
 use Rattle.model.proofs.model_check.named_before.Goals as goal
-
-pub loop-at-init : goal.loop-at-init
-loop-at-init c = refl
-
-pub link_at-earlier-requires : goal.link_at-earlier-requires
-link_at-earlier-requires c = omega arith
-
-pub same_name-requires : goal.same_name-requires
-same_name-requires c = (omega arith, omega arith)
-
-pub returns-then-same_name : goal.returns-then-same_name
-unfolding named_before
-returns-then-same_name c =
-    sym
-    (c.loop-at.invariant
-    ∙ this_one _ _ _ _ c.loop-at-test.true c.link_at-earlier.ensures.0 _ (is c.same_name.ensures c.if-same_name.true))
-
-pub loop-at-smaller : goal.loop-at-smaller
-loop-at-smaller c = omega arith
-
-pub loop-at-preserved : goal.loop-at-preserved
-loop-at-preserved c =
-    c.loop-at.invariant
-    ∙ not_this _ _ _ _ c.loop-at-test.true c.link_at-earlier.ensures.0 _
-    (is c.same_name.ensures c.if-same_name.false)
 
 pub returns : goal.returns
 unfolding named_before
-returns c = sym (c.loop-at.invariant ∙ no_more _ _ _ c.loop-at-test.false _)
+returns c =
+    let test : Link → Bool = λ earlier. S.same_name c.args.bytes.now earlier c.args.link in
+    let e : c.any.result ≡ list_any test (links c.args.bytes.now 0 c.args.link.name) =
+    any_from_yields_List test c.any.new.self _ _ c.any.ensures.ran
+    (YieldsList-from_first (λ (x : Link). x) (λ (s : LinkIter). links s.bytes.now s.at s.to) (links c.args.bytes.now 0 c.args.link.name) c.links_before.ensures)
+    (search rules)
+    in e ∙ any_is test _

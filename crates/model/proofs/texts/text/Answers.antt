@@ -1,15 +1,9 @@
-use Rattle.model.specs.Text.{text}
-use borrow.Author.Tests.{le-ltb, lt-ltb}
+use mathlib.Core.Path.{refl, ap, ◌∙◌}
+use mathlib.Core.List.{List}
+use Prim.Native.Nat.{ℕ}
+use Rattle.std.proofs.Common.{Bor}
+use Rattle.model.proofs.SameBytes.{text_is}
 use Rattle.model.proofs.texts.text.Goals as goal
 
-pub returns-then-bytes-to : goal.returns-then-bytes-to
-unfolding text
-returns-then-bytes-to c = rw (lt-ltb _ _ c.if-bytes-to.true)
-
-pub returns-then-to-from : goal.returns-then-to-from
-unfolding text
-returns-then-to-from c = rw (le-ltb _ _ c.if-bytes-to.false, lt-ltb _ _ c.if-to-from.true)
-
 pub returns : goal.returns
-unfolding text
-returns c = rw (le-ltb _ _ c.if-bytes-to.false, le-ltb _ _ c.if-to-from.false)
+returns c = ap (λ (b : Bor (List ℕ)). b.now) c.unwrap_or.ensures ∙ text_is _ _ _ _ _ refl c.get.ensures.lookup.0

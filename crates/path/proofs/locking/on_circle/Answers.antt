@@ -7,4 +7,4 @@ returns-then-q_len c = rw (rw c.norm-q_len.ensures at c.if-q_len.true)
 
 pub returns : goal.returns
 unfolding on_circle
-returns c = rw (c.add.ensures, c.scale-2.ensures, c.scale.ensures, c.norm-q_len.ensures, rw c.norm-q_len.ensures at c.if-q_len.false)
+returns c = rw (c.add.ensures, c.mul-2.ensures, c.mul.ensures, c.norm-q_len.ensures, rw c.norm-q_len.ensures at c.if-q_len.false)

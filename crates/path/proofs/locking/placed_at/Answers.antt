@@ -1,6 +1,6 @@
 use Rattle.float.specs.Helpers.{nought}
 use Rattle.inverse.specs.Inverse.{pose_at}
-use Rattle.inverse.proofs.FromTurns.{pose_from_lem, joints_from_lem}
+use Rattle.inverse.proofs.FromTurns.{pose_from_is, joints_from_is}
 use Rattle.path.specs.Locking.{placed_at, finite_position}
 use Rattle.path.proofs.locking.placed_at.Goals as goal
 
@@ -11,11 +11,11 @@ returns-then-all_finite c =
       c.joints_from-j.ensures,
       c.pose_from-pose0.ensures,
       c.turns_of-turns.ensures,
-      pose_from_lem c.args.p c.args.angles nought,
-      joints_from_lem c.args.p c.args.angles c.args.tip (pose_at c.args.p c.args.angles nought).tip,
-      rw (c.all_finite.ensures, c.joints_from-j.ensures, c.pose_from-pose0.ensures, c.turns_of-turns.ensures, pose_from_lem c.args.p c.args.angles nought, joints_from_lem c.args.p c.args.angles c.args.tip (pose_at c.args.p c.args.angles nought).tip) at c.if-all_finite.true,
+      pose_from_is c.args.p c.args.angles nought,
+      joints_from_is c.args.p c.args.angles c.args.tip (pose_at c.args.p c.args.angles nought).tip,
+      rw (c.all_finite.ensures, c.joints_from-j.ensures, c.pose_from-pose0.ensures, c.turns_of-turns.ensures, pose_from_is c.args.p c.args.angles nought, joints_from_is c.args.p c.args.angles c.args.tip (pose_at c.args.p c.args.angles nought).tip) at c.if-all_finite.true,
     )
 
 pub returns : goal.returns
 unfolding placed_at finite_position
-returns c = rw (c.refused.ensures, rw (c.all_finite.ensures, c.joints_from-j.ensures, c.pose_from-pose0.ensures, c.turns_of-turns.ensures, pose_from_lem c.args.p c.args.angles nought, joints_from_lem c.args.p c.args.angles c.args.tip (pose_at c.args.p c.args.angles nought).tip) at c.if-all_finite.false)
+returns c = rw (c.refused.ensures, rw (c.all_finite.ensures, c.joints_from-j.ensures, c.pose_from-pose0.ensures, c.turns_of-turns.ensures, pose_from_is c.args.p c.args.angles nought, joints_from_is c.args.p c.args.angles c.args.tip (pose_at c.args.p c.args.angles nought).tip) at c.if-all_finite.false)

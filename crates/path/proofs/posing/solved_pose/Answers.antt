@@ -7,4 +7,4 @@ returns-in_default c = rw (c.refused.ensures, rw c.unit_direction.ensures at c.i
 
 pub returns : goal.returns
 unfolding solved_pose
-returns c = rw (c.solved_tip.ensures, rw c.unit_direction.ensures at c.in-Unit.is)
+returns c = rw (c.solved_tip.ensures, rw c.unit_direction.ensures at c.in-Some.is)

@@ -1,4 +1,3 @@
-use borrow.Author.Tests.{not-false}
 use Rattle.path.specs.Posing.{solved_tip}
 use Rattle.std.proofs.lemmas.Bool.{not_from_true}
 use Rattle.std.proofs.lemmas.Bool.{not_from_false}
@@ -11,9 +10,6 @@ returns-then-not-all_finite c = rw (c.refused.ensures, rw c.all_finite.ensures a
 pub returns-then-not-all_within : goal.returns-then-not-all_within
 unfolding solved_tip
 returns-then-not-all_within c = rw (c.refused-then-not-all_within.ensures, rw c.all_finite.ensures at (not_from_true _ c.if-not-all_finite.false), rw c.all_within.ensures at (not_from_false _ c.if-not-all_within.true))
-
-pub solve_one-requires : goal.solve_one-requires
-solve_one-requires c = (c.requires, not-false _ (rw c.all_within.ensures at (not_from_true _ c.if-not-all_within.false)))
 
 pub returns : goal.returns
 unfolding solved_tip

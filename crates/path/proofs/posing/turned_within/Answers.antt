@@ -5,6 +5,6 @@ pub returns-then-within : goal.returns-then-within
 unfolding turned_within
 returns-then-within c = rw (c.within-then-within.ensures, rw c.within.ensures at c.if-within.true)
 
-pub returns : goal.returns
+pub returns-else-within : goal.returns-else-within
 unfolding turned_within
-returns c = rw (rw c.within.ensures at c.if-within.false)
+returns-else-within c = rw (rw c.within.ensures at c.if-within.false) c.if-within.false

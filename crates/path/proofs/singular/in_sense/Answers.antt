@@ -7,4 +7,4 @@ returns-then-along c = rw c.if-along.true
 
 pub returns : goal.returns
 unfolding in_sense
-returns c = rw (c.scale.ensures, c.if-along.false)
+returns c = rw (c.mul.ensures, c.if-along.false)

@@ -1,28 +1,15 @@
-use native.Mathlib.Omega.{arith}
-use lib.ListN.{length-set}
-use Rattle.lists.proofs.Padding.{clearing_start, clearing_step, clearing_end}
+use Rattle.std.proofs.Common.{◌≡◌, [], ◌-◌, arith, length, take, drop, append-nil, length-drop}
+use lib.Seq.{take_all, length-take-le}
+use Rattle.std.proofs.lemmas.List.{drop_all}
+use borrow.Rule.Slice.PartMut.{post_of}
+use Rattle.lists.specs.Padding.{padded}
 use Rattle.path.proofs.solving.clear_from.Goals as goal
 
-pub loop-i-init : goal.loop-i-init
-loop-i-init c = clearing_start c.requires
-
-pub offset_bounds-out-i : goal.offset_bounds-out-i
-offset_bounds-out-i c = omega arith
-
-pub bounds-out-i : goal.bounds-out-i
-bounds-out-i c = omega arith
-
-pub overflow_add-i : goal.overflow_add-i
-overflow_add-i c = omega arith
-
-pub loop-i-smaller : goal.loop-i-smaller
-loop-i-smaller c = simp length-set (omega arith)
-
-pub loop-i-preserved : goal.loop-i-preserved
-loop-i-preserved c = clearing_step c.loop-i-test.true c.loop-i.invariant
-
-pub shape_of-out : goal.shape_of-out
-shape_of-out c = c.loop-i.invariant.as_long
-
 pub returns : goal.returns
-returns c = clearing_end c.loop-i-test.false c.loop-i.invariant
+unfolding padded
+returns c =
+    let room : length (drop c.args.from c.args.out.now) ≡ length c.args.out.now - c.args.from = length-drop _ _ in
+    let rest : take (length c.args.out.now - c.args.from) (drop c.args.from c.args.out.now) ≡ drop c.args.from c.args.out.now = take_all _ _ (omega arith) in
+    let behind : post_of c.args.from (length c.args.out.now - c.args.from) c.args.out.now ≡ [] = drop_all (length c.args.out.now - c.args.from) (drop c.args.from c.args.out.now) (omega arith) in
+    let front : length (take c.args.from c.args.out.now) ≡ c.args.from = length-take-le _ _ c.requires in
+    rw (rw (rest, room) at (c.fill.ensures.after (λ y e. e)), behind, append-nil, front)

@@ -1,9 +1,5 @@
-use Prim.Native.Nat.{◌-◌}
 use Rattle.path.proofs.Walking.{Walking}
 use Rattle.path.proofs.solving.solve_poses.Given as goal
 
 abbrev pub invariant-loop-i : goal.invariant-loop-i
 invariant-loop-i l = Walking l.s l.initial.previous l.poses l.n l.initial.out l.out l.previous l.i
-
-abbrev pub decreases-loop-i : goal.decreases-loop-i
-decreases-loop-i l = l.n - l.i

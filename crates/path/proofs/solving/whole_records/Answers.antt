@@ -6,6 +6,6 @@ pub returns-then-numbers-eq0 : goal.returns-then-numbers-eq0
 unfolding whole_records
 returns-then-numbers-eq0 c = rw (eq-eqb _ _ c.if-numbers-eq0.true)
 
-pub returns : goal.returns
+pub returns-else-numbers-eq0 : goal.returns-else-numbers-eq0
 unfolding whole_records
-returns c = rw (ne_eqb _ _ c.if-numbers-eq0.false)
+returns-else-numbers-eq0 c = rw (ne_eqb _ _ c.if-numbers-eq0.false)

@@ -7,4 +7,4 @@ returns-then-charge-balance c =
     let h = c.if-charge-balance.true in let all = paid_for c.args.balances.now c.args.shop c.args.said c.args.poses.now c.args.joints.now c.charge_of-charge.ensures (omega (arith, h)) in record { answer = all.0; poses = all.1.0; joints = all.1.1.0; balances = all.1.1.1 }
 
 pub returns : goal.returns
-returns c = let all = not_paid_for c.args.balances.now c.args.shop c.args.said c.args.poses.now c.args.joints.now c.charge_of-charge.ensures c.if-charge-balance.false c.clear_from.ensures c.clear_from-2.ensures in record { answer = all.0; poses = all.1.0; joints = all.1.1.0; balances = all.1.1.1 }
+returns c = let all = not_paid_for c.args.balances.now c.args.shop c.args.said c.args.poses.now c.args.joints.now c.charge_of-charge.ensures c.if-charge-balance.false (c.fill.ensures.after (λ y e. e)) (c.fill-2.ensures.after (λ y e. e)) in record { answer = rw c.new.ensures all.0; poses = all.1.0; joints = all.1.1.0; balances = all.1.1.1 }

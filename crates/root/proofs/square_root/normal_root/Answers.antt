@@ -1,7 +1,6 @@
 use Rattle.std.proofs.Common.{ℕ, ◌+◌, ◌^◌, ◌<◌, arith, lit≤, rules}
 use lib.Ieee.{binary64, to_bits}
 use Rattle.root.proofs.RootCases.{no_nan, bits_lo, bits_hi, scaled}
-use Rattle.float.proofs.NotNan.{same_number}
 use Rattle.root.proofs.RootTests.{field_room, odd_room, m_low, m_high, f_low, f_high}
 use Rattle.root.proofs.square_root.normal_root.Goals as goal
 
@@ -19,9 +18,6 @@ overflow_add-odd c = record { fits = odd_room (to_bits binary64 c.args.x) 64 (bi
 
 pub overflow_add-b : goal.overflow_add-b
 overflow_add-b c = record { fits = bits-room (to_bits binary64 c.args.x) (bits_hi c.args.x c.requires) }
-
-pub float_to_bits-guess : goal.float_to_bits-guess
-float_to_bits-guess c = same_number _ c.if-guess.false
 
 pub parts_root-requires : goal.parts_root-requires
 parts_root-requires c =

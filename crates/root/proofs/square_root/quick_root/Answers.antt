@@ -1,13 +1,9 @@
-use Rattle.std.proofs.Common.{lit≤, rules}
-use Rattle.float.proofs.NotNan.{same_number}
+use Rattle.std.proofs.Common.{lit≤, rules, sym, ◌∙◌}
 use Rattle.root.proofs.RootQuick.{nan_root, near_root, no_nan_near, sum_room}
 use Rattle.root.proofs.square_root.quick_root.Goals as goal
 
-pub returns-then-x : goal.returns-then-x
-returns-then-x c = nan_root _ c.if-x.true
-
-pub float_to_bits-b : goal.float_to_bits-b
-float_to_bits-b c = same_number _ c.if-x.false
+pub returns-then-is_nan : goal.returns-then-is_nan
+returns-then-is_nan c = nan_root _ (sym c.is_nan.ensures.value ∙ c.if-is_nan.true)
 
 pub overflow_add-result : goal.overflow_add-result
 overflow_add-result c = record { fits = sum_room _ c.if-b-ge4607182418766462976.true c.if-b-lt4607182418833571840.true _ (lit≤ tt) }

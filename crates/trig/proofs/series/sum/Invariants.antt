@@ -1,10 +1,7 @@
 -- `trig::series::sum` meets its contract: what is left of the sum, from here, is the whole of it. Assumes nothing.
-use Rattle.std.proofs.Common.{◌≡◌, ◌≤◌}
+use Rattle.std.proofs.Common.{◌≡◌}
 use Rattle.trig.specs.Kernel.{sum}
 use Rattle.trig.proofs.series.sum.Given as goal
 
 abbrev pub invariant-loop-left : goal.invariant-loop-left
-invariant-loop-left l = (l.left ≤ 12) × (sum l.z l.y l.p l.left ≡ sum l.z l.taken l.p l.n)
-
-abbrev pub decreases-loop-left : goal.decreases-loop-left
-decreases-loop-left l = l.left
+invariant-loop-left l = sum l.z l.y l.p l.left ≡ sum l.z l.taken l.p l.n

@@ -4,11 +4,7 @@ use Rattle.writer.proofs.Passing.{order_passed}
 use lib.Seq.{take_all}
 use mathlib.Core.Path.{◌∙◌, sym}
 use native.Mathlib.Omega.{arith}
-use borrow.Author.Rules.{rules}
 use Rattle.writer.proofs.checking.write_check.Goals as goal
-
-pub job_within-space-requires : goal.job_within-space-requires
-job_within-space-requires c = (c.record_of.ensures.most, search rules)
 
 pub returns : goal.returns
 unfolding write_check

@@ -15,6 +15,6 @@ put_number-requires c =
 pub returns-then-w-eq80 : goal.returns-then-w-eq80
 returns-then-w-eq80 c = rw (Laws.rest_is _ _ c.if-w-eq80.true) c.put_number.ensures
 
-pub returns : goal.returns
-returns c =
+pub returns-else-w-eq80 : goal.returns-else-w-eq80
+returns-else-w-eq80 c =
     Laws.rest_not c.args.w c.args.rest c.args.at c.args.out.now (ne_eqb _ _ c.if-w-eq80.false)

@@ -1,17 +1,6 @@
 use borrow.Author.Tests.{eq-eqb, ne_eqb}
-use native.Mathlib.Omega.{arith}
 use Rattle.writer.proofs.Texts as Laws
 use Rattle.writer.proofs.writing.put_second.Goals as goal
-
-pub put_rotary-requires : goal.put_rotary-requires
-put_rotary-requires c =
-    let h = Laws.second_room _ c.requires.0 c.args.k (eq-eqb _ _ c.if-k-eq2.true) in
-    (c.requires.0, omega (arith, h, c.requires.1))
-
-pub overflow_add-result : goal.overflow_add-result
-overflow_add-result c =
-    let h = Laws.second_room _ c.requires.0 c.args.k (eq-eqb _ _ c.if-k-eq2.true) in
-    omega (arith, h, c.requires.1)
 
 pub returns-then-k-eq2 : goal.returns-then-k-eq2
 returns-then-k-eq2 c = let all = Laws.second_put c.args.w c.requires.0 c.args.k c.args.at c.args.out.now _ (eq-eqb _ _ c.if-k-eq2.true) c.put_rotary.ensures in record { end = all.0; lent = all.1 }

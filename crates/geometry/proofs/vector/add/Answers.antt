@@ -1,7 +1,0 @@
-use mathlib.Core.Path.{refl}
-use Rattle.geometry.specs.Vector.{add}
-use Rattle.geometry.proofs.vector.add.Goals as goal
-
-pub returns : goal.returns
-unfolding add
-returns c = refl

@@ -1,7 +1,0 @@
-use Rattle.path.proofs.exact.position_finite.Goals as goal
-
-pub returns-in-At : goal.returns-in-At
-returns-in-At c = rw (c.all_finite.ensures, c.in-At.is)
-
-pub returns-in-Nothing : goal.returns-in-Nothing
-returns-in-Nothing c = rw c.in-Nothing.is

@@ -1,7 +1,0 @@
-use Rattle.path.proofs.solving.start_within.Goals as goal
-
-pub returns-in-AtZero : goal.returns-in-AtZero
-returns-in-AtZero c = rw c.in-AtZero.is
-
-pub returns-in-From : goal.returns-in-From
-returns-in-From c = rw (c.joints_within.ensures, c.in-From.is)

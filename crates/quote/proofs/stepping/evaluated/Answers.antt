@@ -1,5 +1,0 @@
-use Rattle.quote.proofs.Kept.{evaluated_so}
-use Rattle.quote.proofs.stepping.evaluated.Goals as goal
-
-pub returns : goal.returns
-returns c = evaluated_so c.args.p c.args.count c.args.given.now c.args.solved.now c.args.stack.now c.args.s c.requires.1.0 c.requires.1.1 c.first_waiting-right.ensures c.waiting_axis-right_axis.ensures
