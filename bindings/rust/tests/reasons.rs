@@ -15,27 +15,25 @@ fn repository(file: &str) -> String {
     .unwrap()
 }
 
-/// The names and numbers of crates/refusal, where they are written once.
-fn written() -> Vec<(String, u32)> {
-    let constant = |line: &str| {
-        let (name, number) = line
-            .strip_prefix("pub const ")?
-            .strip_suffix(';')?
-            .split_once(": u32 = ")?;
-        Some((name.to_owned(), number.parse().unwrap()))
-    };
-    let text = repository("crates/refusal/src/lib.rt");
-    text.lines().filter_map(constant).collect()
-}
-
 /// `PoseUnreachable` as POSE_UNREACHABLE.
-fn in_capitals(reason: Reason) -> String {
-    let name = format!("{reason:?}");
+fn in_capitals(name: &str) -> String {
     let capitals = name.chars().map(|c| match c.is_uppercase() {
         true => format!("_{c}"),
         false => c.to_uppercase().to_string(),
     });
     capitals.collect::<String>()[1..].to_owned()
+}
+
+/// The names and numbers of crates/refusal, where they are written once: the causes, each with its number.
+fn written() -> Vec<(String, u32)> {
+    let cause = |line: &str| {
+        let (name, number) = line.trim().strip_suffix(',')?.split_once(" = ")?;
+        Some((in_capitals(name), number.parse().unwrap()))
+    };
+    let text = repository("crates/refusal/src/lib.rt");
+    let (_, behind) = text.split_once("pub enum Cause {").unwrap();
+    let (causes, _) = behind.split_once("\n}").unwrap();
+    causes.lines().filter_map(cause).collect()
 }
 
 /// Name, number and comment of each refusal of the header, in its order.
@@ -70,7 +68,8 @@ fn names_numbers_and_words_are_one_in_the_proved_code_the_header_and_here() {
     for (name, number, comment) in &declared {
         assert_eq!(&(name.clone(), *number), &written[*number as usize - 1]);
         let reason = Reason::from(*number);
-        assert_eq!((&in_capitals(reason), reason.number()), (name, *number));
+        let capitals = in_capitals(&format!("{reason:?}"));
+        assert_eq!((&capitals, reason.number()), (name, *number));
         assert_eq!(&reason.to_string(), comment);
     }
     let numbers: BTreeSet<u32> = declared.iter().map(|(_, number, _)| *number).collect();
