@@ -114,7 +114,7 @@ mod tests {
     /// The program and its definition have the table that comes of these sums.
     #[test]
     fn the_tables_are_one() {
-        let program = written("crates/hirth/src/teeth.rt", "const TEETH");
+        let program = written("crates/hirth/src/teeth.rt", "static TEETH");
         let definition = written("crates/hirth/specs/Teeth.antt", "teeth =");
         assert_eq!((&program[..], &definition[..]), (&TABLE[..], &TABLE[..]));
     }

@@ -9,7 +9,8 @@ use lib.Dec.{ltb, eqb}
 use lib.ListN.{length, get_or}
 use borrow.Author.Tests.{ltb-false, not-true, ne_eqb}
 use Rattle.std.specs.Prelude.{Err, Ok}
-use Rattle.std.proofs.Common.{cond, add-zero, ◌≢◌, Some, None, slice_range, drop, nat_lt}
+use Rattle.std.proofs.Common.{cond, add-zero, ◌≢◌, Some, None, slice_range, drop, take, nat_lt, w64}
+use Rattle.std.specs.Int.{from_le_bytes}
 use Rattle.std.specs.List.{position, position_or_len}
 use Rattle.std.proofs.lemmas.List.{get_or-take, get_or-drop, length-take-le, length-drop}
 use Rattle.std.proofs.lemmas.Bool.Decides.{nat_tests}
@@ -33,6 +34,18 @@ unfolding little_endian
 word_is l at =
     let e : at + 0 ≡ at = omega arith in
     rw e (omega arith)
+
+-- a byte of the n from `at` on, and the eight of them as a word
+chunk_byte : (l : List ℕ) (at n i : ℕ) → i < n → get_or (take n (slice_range l at (at + n))) i 0 ≡ get_or l (at + i) 0
+chunk_byte l at n i lt =
+    get_or-take n (slice_range l at (at + n)) i 0 lt ∙ get_or-take (at + n - at) (drop at l) i 0 (omega arith) ∙ get_or-drop at l i 0
+
+pub chunk_word : (l ys : List ℕ) (at : ℕ) → ys ≡ take 8 (slice_range l at (at + 8)) → from_le_bytes w64 ys ≡ little_endian 8 l at
+unfolding little_endian
+chunk_word l ys at e =
+    let b : (i : ℕ) → i < 8 → get_or ys i 0 ≡ get_or l (at + i) 0 = λ i lt. rw e (chunk_byte l at 8 i lt) in
+    omega
+    (arith, b 0 (omega arith), b 1 (omega arith), b 2 (omega arith), b 3 (omega arith), b 4 (omega arith), b 5 (omega arith), b 6 (omega arith), b 7 (omega arith))
 
 pub two_is : (l : List ℕ) (at : ℕ) → get_or l at 0 + get_or l (at + 1) 0 * 256 ≡ little_endian 2 l at
 unfolding little_endian

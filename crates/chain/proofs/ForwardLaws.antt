@@ -20,7 +20,7 @@ use Rattle.chain.specs.Prepared.{prepared}
 use Rattle.chain.specs.Forward.{turns_of, reach, posed, length_good, forward_sizes, forward_check, unless_refused, forward, forward_read}
 use Rattle.chain.specs.ChainBytes.{read_chain}
 use Rattle.chain.specs.Ready.{ready_of, ready_read, ready}
-use Rattle.chain.specs.ReadySteps.{numbers_good, refused_by, refused_read, from_ready}
+use Rattle.chain.specs.ReadySteps.{numbers_good, refused_by, refused_read, reached_by, told}
 use Rattle.chain.proofs.ReadyLaws.{both, same, ok_passed, within_finite, all_within_finite, over_longest, over_farthest, over_turned}
 
 joints_within_finite : (j : Joints) → joints_within j ≡ true → joints_finite j ≡ true
@@ -119,6 +119,6 @@ module _ (bytes : List ℕ) (j : Joints) (tool : Float) where
   chain_refused h = unserved (read_chain bytes) j tool (inr h)
 
   -- whatever the bytes come to
-  pub from_ready_is : (x : Option Prepared) → ready bytes ≡ x → numbers_good j tool ≡ true → from_ready x (read_chain bytes) j tool ≡ forward_read (read_chain bytes) j tool
-  from_ready_is (Some p) h n = served_is_read p h n
-  from_ready_is None h n = chain_refused h
+  pub reached_is : (x : Option Prepared) → ready bytes ≡ x → numbers_good j tool ≡ true → told (reached_by x j tool) (read_chain bytes) j tool ≡ forward_read (read_chain bytes) j tool
+  reached_is (Some p) h n = served_is_read p h n
+  reached_is None h n = chain_refused h

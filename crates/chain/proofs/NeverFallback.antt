@@ -21,8 +21,8 @@ use Rattle.geometry.proofs.Range.{plain_turn, Turnable, sized_turnable, turn_ser
 use Rattle.refusal.specs.declared.Refusal.{Refusal}
 use Rattle.refusal.specs.declared.Cause.{Cause}
 use Rattle.chain.specs.Checked.{Checked}
-use Rattle.chain.specs.declared.Mount.{Mount}
-use Rattle.chain.specs.declared.Mount.TheVariants.{Table, Head, Absent}
+use Rattle.chain.specs.declared.Carrier.{Carrier}
+use Rattle.chain.specs.declared.Carrier.TheVariants.{Table, Head}
 use Rattle.chain.specs.declared.Prepared.{Prepared}
 use Rattle.chain.specs.declared.Kinematics.{Kinematics}
 use Rattle.chain.specs.declared.Joints.{Joints}
@@ -31,8 +31,9 @@ use Rattle.chain.specs.Bytes.{byte_at, little_endian, number_at, vector_at}
 use Rattle.chain.specs.ChainBytes.{axis_field, second_field, spindle_field, length_of_chain, rotary_at, no_rotary, second_at, chain_fields, chain_at, no_chain, chain_unless, malformed, record_length, read_count, read_counted, read_chain}
 use Rattle.chain.specs.Check.{demand, then, one_or_two, chain_check, within, all_within, longest, farthest, most_turned, joints_finite, joints_within, chain_within}
 use Rattle.chain.specs.Prepared.{prepared}
-use Rattle.chain.specs.Forward.{still, swing, turns_of, swing_forth, tables_forth, reach_axis, reach, forward_core, posed, unless_refused, length_good, forward_sizes, forward_check, forward}
+use Rattle.chain.specs.Forward.{of_second, still, swing, turns_of, swing_forth, tables_forth, reach_axis, reach, forward_core, posed, unless_refused, length_good, forward_sizes, forward_check, forward}
 use Rattle.chain.proofs.Passing.{then_passed, demand_passed}
+use Rattle.chain.proofs.TablesForth.{second_same}
 use Rattle.chain.proofs.UnitAxes.{FitAxes, ChainDirections, chain_directions, chain_units}
 use Rattle.chain.proofs.ReachDirected.{core_served, core_directed}
 
@@ -50,43 +51,39 @@ unfolding within
 within_up_to x f h = double_up_to 36000 most_turned most_turned_units x f h
 
 -- ---- the turns, without the fallback
-abbrev pub plain_swing : Mount → Float → Turn
+abbrev pub plain_swing : Carrier → Float → Turn
 plain_swing Table angle = plain_turn (neg angle)
 plain_swing Head angle = plain_turn angle
-plain_swing Absent angle = still
 
-abbrev pub plain_forth : Mount → Float → Turn
+abbrev pub plain_forth : Carrier → Float → Turn
 plain_forth Table angle = plain_turn angle
 plain_forth Head angle = still
-plain_forth Absent angle = still
 
 abbrev pub plain_turns : Prepared → Float → Float → Turns
-plain_turns p a0 a1 = record { first = plain_swing p.first.mount a0; second = plain_swing p.second.mount a1 }
+plain_turns p a0 a1 = record { first = plain_swing p.first.carrier a0; second = of_second p.second still (λ s. plain_swing s.carrier a1) }
 
 abbrev pub plain_tables : Prepared → Float → Float → Turns
-plain_tables p a0 a1 = record { first = plain_forth p.first.mount a0; second = plain_forth p.second.mount a1 }
+plain_tables p a0 a1 = record { first = plain_forth p.first.carrier a0; second = of_second p.second still (λ s. plain_forth s.carrier a1) }
 
-swing_plain : (m : Mount) (angle : Float) → Turnable angle → swing m angle ≡ plain_swing m angle
+swing_plain : (m : Carrier) (angle : Float) → Turnable angle → swing m angle ≡ plain_swing m angle
 swing_plain Table angle A = turn_served (neg angle) A.back
 swing_plain Head angle A = turn_served angle A.forth
-swing_plain Absent angle A = refl
 
-forth_plain : (m : Mount) (angle : Float) → Turnable angle → swing_forth m angle ≡ plain_forth m angle
+forth_plain : (m : Carrier) (angle : Float) → Turnable angle → swing_forth m angle ≡ plain_forth m angle
 forth_plain Table angle A = turn_served angle A.forth
 forth_plain Head angle A = refl
-forth_plain Absent angle A = refl
 
 pub turns_plain : (p : Prepared) (a0 a1 : Float) → Turnable a0 → Turnable a1 → turns_of p a0 a1 ≡ plain_turns p a0 a1
 unfolding turns_of
 turns_plain p a0 a1 A B =
-    ap (λ (t : Turn). record { first = t; second = swing p.second.mount a1 }) (swing_plain p.first.mount a0 A)
-    ∙ ap (λ (t : Turn). record { first = plain_swing p.first.mount a0; second = t }) (swing_plain p.second.mount a1 B)
+    ap (λ (t : Turn). record { first = t; second = of_second p.second still (λ s. swing s.carrier a1) }) (swing_plain p.first.carrier a0 A)
+    ∙ ap (λ (t : Turn). record { first = plain_swing p.first.carrier a0; second = t }) (second_same p.second (λ c. swing c a1) (λ c. plain_swing c a1) (λ c. swing_plain c a1 B))
 
 pub tables_plain : (p : Prepared) (a0 a1 : Float) → Turnable a0 → Turnable a1 → tables_forth p a0 a1 ≡ plain_tables p a0 a1
 unfolding tables_forth
 tables_plain p a0 a1 A B =
-    ap (λ (t : Turn). record { first = t; second = swing_forth p.second.mount a1 }) (forth_plain p.first.mount a0 A)
-    ∙ ap (λ (t : Turn). record { first = plain_forth p.first.mount a0; second = t }) (forth_plain p.second.mount a1 B)
+    ap (λ (t : Turn). record { first = t; second = of_second p.second still (λ s. swing_forth s.carrier a1) }) (forth_plain p.first.carrier a0 A)
+    ∙ ap (λ (t : Turn). record { first = plain_forth p.first.carrier a0; second = t }) (second_same p.second (λ c. swing_forth c a1) (λ c. plain_forth c a1) (λ c. forth_plain c a1 B))
 
 -- ---- joints within demand 2's ranges
 pub record TurnableJoints (j : Joints) : Type 0 where

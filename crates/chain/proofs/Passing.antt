@@ -19,6 +19,10 @@ pub then_passed : (first second : Checked) → then first second ≡ Ok tt → (
 then_passed (Ok _) second e = (refl, e)
 then_passed (Err r) second e = absurd (refused_passed e)
 
+-- the first that refuses is the answer
+pub first_refused : {first : Checked} {r : Refusal} (second : Checked) → first ≡ Err r → ◌≡◌ {A = Checked} (Err r) (then first second)
+first_refused second e = rw e refl
+
 pub demand_passed : (ok : Bool) (cause : Cause) (at : ℕ) → demand ok cause at ≡ Ok tt → ok ≡ true
 demand_passed true cause at e = refl
 demand_passed false cause at e = absurd (refused_passed e)

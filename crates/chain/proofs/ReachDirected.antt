@@ -4,56 +4,60 @@ use Prim.Native.Nat.{◌*◌}
 use mathlib.Core.Path.{◌≡◌, ap}
 use mathlib.Core.Bool.{true}
 use lib.Ieee.{Float, neg}
-use Rattle.std.specs.Prelude.{Ok, Some}
+use Rattle.std.specs.Prelude.{None, Ok, Option, Some}
 use Rattle.geometry.specs.declared.Vec3.{Vec3}
 use Rattle.geometry.specs.declared.Turn.{Turn}
 use Rattle.geometry.specs.Turn.{rotate_vector}
 use Rattle.geometry.specs.Direction.{unit_direction, unit_or}
 use Rattle.geometry.proofs.UnitSize.{UnitSized}
-use Rattle.geometry.proofs.TurnPair.{TurnSized, turn_pair, still_sized}
+use Rattle.geometry.proofs.TurnPair.{TurnSized, turn_pair}
 use Rattle.geometry.proofs.TurnSteps.{ω}
-use Rattle.geometry.proofs.Directed.{Out, unit_out, out_directed, none_directed, one_directed, two_directed}
-use Rattle.chain.specs.declared.Mount.{Mount}
-use Rattle.chain.specs.declared.Mount.TheVariants.{Table, Head, Absent}
+use Rattle.geometry.proofs.Directed.{Out, unit_out, out_directed, one_directed, two_directed}
+use Rattle.chain.specs.declared.Carrier.{Carrier}
+use Rattle.chain.specs.declared.Carrier.TheVariants.{Table, Head}
+use Rattle.chain.specs.declared.Spin.{Spin}
 use Rattle.chain.specs.declared.Prepared.{Prepared}
 use Rattle.chain.specs.declared.Kinematics.{Kinematics}
 use Rattle.chain.specs.Check.{served, has_direction, chain_check}
 use Rattle.chain.specs.Prepared.{prepared}
-use Rattle.chain.specs.Forward.{swing, turns_of, by_head, by_table, head_vector, table_vector, reach_axis, reach, forward_core, posed}
+use Rattle.chain.specs.Forward.{of_second, by_second, still, swing, turns_of, by_head, by_table, head_vector, table_vector, reach_axis, reach, forward_core, posed}
 use Rattle.chain.proofs.UnitAxes.{FitAxes, SecondUnit, UnitChain, chain_units}
 
 -- ---- the turns
-swing_sized : (m : Mount) (angle : Float) → TurnSized (swing m angle)
+swing_sized : (m : Carrier) (angle : Float) → TurnSized (swing m angle)
 swing_sized Table angle = turn_pair (neg angle)
 swing_sized Head angle = turn_pair angle
-swing_sized Absent angle = still_sized
 
--- ---- two rotaries of each mount: those that move the vector, a head on the way out or a table on the way back, turn
+-- ---- two rotaries of each carrier: those that move the vector, a head on the way out or a table on the way back, turn
 -- it once each
-abbrev head : Mount → Vec3 → Turn → Vec3 → Vec3
+abbrev head : Carrier → Vec3 → Turn → Vec3 → Vec3
 head m a t v = by_head m (rotate_vector a v t) v
 
-abbrev table : Mount → Vec3 → Turn → Vec3 → Vec3
+abbrev table : Carrier → Vec3 → Turn → Vec3 → Vec3
 table m a t v = by_table m (rotate_vector a v t) v
 
-moved : (m n : Mount) (a b spindle : Vec3) (t s : Turn) → UnitSized a → SecondUnit n b → TurnSized t → TurnSized s → Out 2 (41616 * (41616 * (8 * ω))) spindle
+moved : (m n : Carrier) (a b spindle : Vec3) (t s : Turn) → UnitSized a → UnitSized b → TurnSized t → TurnSized s → Out 2 (41616 * (41616 * (8 * ω))) spindle
     → Out 10000 (8 * ω) (table n b s (table m a t (head m a t (head n b s spindle))))
 moved Table Table a b w t s A B T S o = two_directed a b w t s A T B S o
 moved Table Head a b w t s A B T S o = two_directed b a w s t B S A T o
-moved Table Absent a b w t s A B T S o = one_directed a w t A T o
 moved Head Table a b w t s A B T S o = two_directed a b w t s A T B S o
 moved Head Head a b w t s A B T S o = two_directed b a w s t B S A T o
-moved Head Absent a b w t s A B T S o = one_directed a w t A T o
-moved Absent Table a b w t s A B T S o = one_directed b w s B S o
-moved Absent Head a b w t s A B T S o = one_directed b w s B S o
-moved Absent Absent a b w t s A B T S o = none_directed w o
+
+-- and one alone
+moved_one : (m : Carrier) (a spindle : Vec3) (t : Turn) → UnitSized a → TurnSized t → Out 2 (41616 * (41616 * (8 * ω))) spindle → Out 10000 (8 * ω) (table m a t (head m a t spindle))
+moved_one Table a w t A T o = one_directed a w t A T o
+moved_one Head a w t A T o = one_directed a w t A T o
 
 -- ---- a prepared chain
+counted : (first : Spin) (spindle : Vec3) (a0 a1 : Float) → UnitSized first.axis → Out 2 (41616 * (41616 * (8 * ω))) spindle → (o : Option Spin) → SecondUnit o
+    → Out 10000 (8 * ω) (by_second o (λ s. table_vector s (of_second o still (λ s. swing s.carrier a1))) (table_vector first (swing first.carrier a0) (head_vector first (swing first.carrier a0) (by_second o (λ s. head_vector s (of_second o still (λ s. swing s.carrier a1))) spindle))))
+unfolding head_vector table_vector
+counted first w a0 a1 A o (Some s) B = moved first.carrier s.carrier first.axis s.axis w (swing first.carrier a0) (swing s.carrier a1) A B (swing_sized first.carrier a0) (swing_sized s.carrier a1) o
+counted first w a0 a1 A o None B = moved_one first.carrier first.axis w (swing first.carrier a0) A (swing_sized first.carrier a0) o
+
 reached : (p : Prepared) → UnitChain p → (a0 a1 : Float) → Out 10000 (8 * ω) (reach_axis p (turns_of p a0 a1))
-unfolding reach_axis turns_of head_vector table_vector
-reached p C a0 a1 =
-    moved p.first.mount p.second.mount p.first.axis p.second.axis p.spindle (swing p.first.mount a0) (swing p.second.mount a1) C.first C.second (swing_sized p.first.mount a0) (swing_sized p.second.mount a1)
-    (unit_out p.spindle C.spindle_fits C.spindle)
+unfolding reach_axis turns_of
+reached p C a0 a1 = counted p.first p.spindle a0 a1 C.first (unit_out p.spindle C.spindle_fits C.spindle) p.second C.second
 
 -- ---- the laws
 unit_has_direction : (v u : Vec3) → unit_direction v ≡ Some u → has_direction v ≡ true

@@ -4,7 +4,7 @@ use mathlib.Core.Bool.{Bool, true, false, not, ◌&&◌, cond, false≢true}
 use mathlib.Core.List.{List}
 use Prim.Native.Nat.{ℕ, zero, suc, ◌+◌, ◌*◌, ◌≤◌, ◌<◌}
 use native.Mathlib.Omega.{arith}
-use lib.Dec.{ltb}
+use lib.Dec.{eqb, ltb}
 use lib.ListN.{length}
 use lib.Ieee.{Float, nan, inf, fin, of_bits, le, lt, eq}
 use lib.Ieee.Scale.{finite}
@@ -18,12 +18,13 @@ use Rattle.chain.specs.Checked.{Checked}
 use Rattle.chain.specs.declared.RotaryJoint.{RotaryJoint}
 use Rattle.chain.specs.declared.Kinematics.{Kinematics}
 use Rattle.chain.specs.declared.Prepared.{Prepared}
+use Rattle.chain.specs.declared.Spin.{Spin}
 use Rattle.chain.specs.Bytes.{byte_at, vector_at}
 use Rattle.chain.specs.Check.{demand, then, served, has_direction, known_letter, other_letter, travel_good, rotary_check, second_check, chain_check, one_or_two, within, all_within, longest, farthest, most_turned, chain_within, rotary_within}
-use Rattle.chain.specs.ChainBytes.{zeros, axis_field, second_field, spindle_field, rotary_fields, second_fields, chain_fields, rotary_at, second_at, no_rotary, zero_vector, chain_at, chain_unless, no_chain, read_count, read_chain, read_counted, record_length}
+use Rattle.chain.specs.ChainBytes.{zeros, axis_field, second_field, spindle_field, rotary_fields, second_fields, chain_fields, rotary_at, second_at, no_rotary, chain_at, chain_unless, no_chain, read_count, read_chain, read_counted, record_length}
 use Rattle.chain.specs.Prepared.{unit_axis, spin_of, second_spin, prepared}
 use Rattle.chain.specs.Ready.{ready_of, ready_read, ready}
-use Rattle.chain.specs.ReadySteps.{rotary_good, record_good, first_good, second_good, second_axis, mount_at, second_mount, second_pivot, prepared_at, ready_counted}
+use Rattle.chain.specs.ReadySteps.{rotary_good, record_good, first_good, second_good, spin_at, directed_second, with_second, ready_counted}
 
 -- ---- booleans, and checks as booleans
 pub both : (a b : Bool) → (a && b) ≡ true → (a ≡ true) × (b ≡ true)
@@ -104,7 +105,7 @@ all_within_finite c h v l =
     rw (within_finite c h v.x q.0, within_finite c h v.y q.1, within_finite c h v.z p.1)
 
 -- ---- a rotary
-module _ (j : RotaryJoint) (earlier i : ℕ) where
+module _ (j : RotaryJoint) (earlier : Option ℕ) (i : ℕ) where
   abbrev K : Bool
   K = known_letter j.letter
 
@@ -169,10 +170,10 @@ module _ (j : RotaryJoint) (earlier i : ℕ) where
 -- ---- the chain's bytes, with records of w bytes
 module _ (w : ℕ) (bytes : List ℕ) where
   -- what the three calls for each rotary test, with the direction of its axis
-  abbrev R : ℕ → ℕ → ℕ → Bool
+  abbrev R : ℕ → Option ℕ → ℕ → Bool
   R at earlier i = is_ok (rotary_fields bytes at) && (is_ok (rotary_check (rotary_at w bytes at) earlier i) && rotary_within (rotary_at w bytes at))
 
-  record_good_is : (at earlier i : ℕ) → R at earlier i ≡ (record_good w bytes at earlier && has_direction (rotary_at w bytes at).axis)
+  record_good_is : (at : ℕ) (earlier : Option ℕ) (i : ℕ) → R at earlier i ≡ (record_good w bytes at earlier && has_direction (rotary_at w bytes at).axis)
   unfolding record_good
   record_good_is at earlier i =
       ap (λ (z : Bool). is_ok (rotary_fields bytes at) && z) (rotary_good_is (rotary_at w bytes at) earlier i)
@@ -218,16 +219,25 @@ any_order z f1 f2 r1 r2 a e w1 w2 g1 g2 d1 d2 first second finite = same _ _ for
         let l = both r2 w2 k.1 in
         rw (x.0, f.0, k.0, g.0, l.0, finite v.1, v.1, g.1, l.1)
 
--- the code's tests, one after another
-opened : (f s : Bool) (d1 d2 e : Option Vec3) (v1 v2 v : Vec3) (X : Vec3 → Vec3 → Vec3 → Prepared)
-    → cond (not f) None (cond (not s) None (along d1 None (λ a. along d2 None (λ b. along e None (λ c. Some (X a b c))))))
-    ≡ cond (f && (s && (served d1 && (served d2 && served e)))) (Some (X (along d1 v1 (λ u. u)) (along d2 v2 (λ u. u)) (along e v (λ u. u)))) None
-opened false s d1 d2 e v1 v2 v X = refl
-opened true false d1 d2 e v1 v2 v X = refl
-opened true true None d2 e v1 v2 v X = refl
-opened true true (Some a) None e v1 v2 v X = refl
-opened true true (Some a) (Some b) None v1 v2 v X = refl
-opened true true (Some a) (Some b) (Some c) v1 v2 v X = refl
+-- the code's tests, one after another: of two rotaries and of one
+opened : (f s : Bool) (d1 d2 e : Option Vec3) (v1 v2 v : Vec3) (S : Vec3 → Option Spin) (X : Vec3 → Option Spin → Vec3 → Prepared)
+    → cond (not f) None (cond (not s) None (along d1 None (λ a. with_second (along d2 None (λ b. Some (S b))) (λ b. along e None (λ c. Some (X a b c))))))
+    ≡ cond (f && (s && (served d1 && (served d2 && served e)))) (Some (X (along d1 v1 (λ u. u)) (S (along d2 v2 (λ u. u))) (along e v (λ u. u)))) None
+opened false s d1 d2 e v1 v2 v S X = refl
+opened true false d1 d2 e v1 v2 v S X = refl
+opened true true None d2 e v1 v2 v S X = refl
+opened true true (Some a) None e v1 v2 v S X = refl
+opened true true (Some a) (Some b) None v1 v2 v S X = refl
+opened true true (Some a) (Some b) (Some c) v1 v2 v S X = refl
+
+opened_one : (f s : Bool) (d1 e : Option Vec3) (v1 v : Vec3) (X : Vec3 → Option Spin → Vec3 → Prepared)
+    → cond (not f) None (cond (not s) None (along d1 None (λ a. along e None (λ c. Some (X a None c)))))
+    ≡ cond (f && (s && (served d1 && served e))) (Some (X (along d1 v1 (λ u. u)) None (along e v (λ u. u)))) None
+opened_one false s d1 e v1 v X = refl
+opened_one true false d1 e v1 v X = refl
+opened_one true true None e v1 v X = refl
+opened_one true true (Some a) None v1 v X = refl
+opened_one true true (Some a) (Some c) v1 v X = refl
 
 -- the definition's, as one
 closed : (c : Checked) (k : Kinematics) → ready_read (chain_unless c k) ≡ cond (is_ok c && (is_ok (chain_check k) && chain_within k)) (Some (prepared k)) None
@@ -250,9 +260,9 @@ module _ (w : ℕ) (bytes : List ℕ) where
       ∙ ap (λ (z : Bool). is_ok (zeros bytes 1 7) && z) (passed_then (rotary_fields bytes 8) (second_fields w bytes count))
 
   check_passed : (k : Kinematics) → one_or_two k.count ≡ true
-      → is_ok (chain_check k) ≡ (is_ok (rotary_check k.first 0 0) && (is_ok (second_check k) && (all_finite k.spindle_axis && has_direction k.spindle_axis)))
+      → is_ok (chain_check k) ≡ (is_ok (rotary_check k.first None 0) && (is_ok (second_check k) && (all_finite k.spindle_axis && has_direction k.spindle_axis)))
   unfolding chain_check
-  check_passed k h = rw h (go (rotary_check k.first 0 0) (second_check k) (all_finite k.spindle_axis) (has_direction k.spindle_axis))
+  check_passed k h = rw h (go (rotary_check k.first None 0) (second_check k) (all_finite k.spindle_axis) (has_direction k.spindle_axis))
     where
       go : (c d : Checked) (a b : Bool) → is_ok (then c (then d (then (demand a Cause.ChainNotFinite 0) (demand b Cause.SpindleZero 0)))) ≡ (is_ok c && (is_ok d && (a && b)))
       go (Err r) d a b = refl
@@ -265,36 +275,39 @@ module _ (w : ℕ) (bytes : List ℕ) where
   abbrev Tests : ℕ → Bool
   Tests count =
       first_good w bytes
-      && (second_good w bytes count && (served (unit_direction (vector_at bytes 16)) && (served (second_axis w bytes count) && served (unit_direction (vector_at bytes (spindle_field w count))))))
+      && (second_good w bytes count
+      && (served (unit_direction (vector_at bytes 16)) && (cond (eqb count 2) (served (unit_direction (vector_at bytes inner))) true && served (unit_direction (vector_at bytes (spindle_field w count))))))
 
   -- the code's answer, with the chain prepared as `prepare` does it
+  abbrev made : Vec3 → Option Spin → Vec3 → Prepared
+  made axis second spindle = record { first = spin_at bytes 8 axis; second = second; spindle = spindle }
+
   two_answer : ready_counted w bytes 2 ≡ cond (Tests 2) (Some (prepared (Read 2))) None
-  unfolding ready_counted prepared spin_of second_spin unit_axis unit_or chain_at rotary_at second_at prepared_at mount_at second_mount second_pivot second_axis
+  unfolding ready_counted prepared spin_of second_spin unit_axis unit_or chain_at rotary_at second_at spin_at directed_second
   two_answer =
       opened (first_good w bytes) (second_good w bytes 2) (unit_direction (vector_at bytes 16)) (unit_direction (vector_at bytes inner)) (unit_direction (vector_at bytes (spindle_field w 2))) (vector_at bytes 16) (vector_at bytes inner)
-      (vector_at bytes (spindle_field w 2)) (prepared_at w bytes 2)
+      (vector_at bytes (spindle_field w 2)) (λ axis. Some (spin_at bytes (second_field w) axis)) made
 
   one_answer : ready_counted w bytes 1 ≡ cond (Tests 1) (Some (prepared (Read 1))) None
-  unfolding ready_counted prepared spin_of second_spin unit_axis unit_or chain_at rotary_at second_at no_rotary prepared_at mount_at second_mount second_pivot second_axis
+  unfolding ready_counted prepared spin_of second_spin unit_axis unit_or chain_at rotary_at spin_at directed_second
   one_answer =
-      opened (first_good w bytes) (second_good w bytes 1) (unit_direction (vector_at bytes 16)) (Some zero_vector) (unit_direction (vector_at bytes (spindle_field w 1))) (vector_at bytes 16) zero_vector (vector_at bytes (spindle_field w 1))
-      (prepared_at w bytes 1)
+      opened_one (first_good w bytes) (second_good w bytes 1) (unit_direction (vector_at bytes 16)) (unit_direction (vector_at bytes (spindle_field w 1))) (vector_at bytes 16) (vector_at bytes (spindle_field w 1)) made
 
   -- the definition's tests, from the code's
   two_order : (is_ok (chain_fields w bytes 2) && (is_ok (chain_check (Read 2)) && chain_within (Read 2))) ≡ Tests 2
-  unfolding first_good second_good second_axis has_direction second_fields second_check chain_within chain_at second_at rotary_at one_or_two
+  unfolding first_good second_good has_direction second_fields second_check chain_within chain_at second_at rotary_at one_or_two
   two_order = rw (fields_passed 2, check_passed (Read 2) refl)
-      (any_order (is_ok (zeros bytes 1 7)) (is_ok (rotary_fields bytes 8)) (is_ok (rotary_fields bytes (second_field w))) (is_ok (rotary_check (rotary_at w bytes 8) 0 0)) (is_ok (rotary_check (rotary_at w bytes (second_field w)) (byte_at bytes 8) 1))
-      (all_finite (vector_at bytes (spindle_field w 2))) (has_direction (vector_at bytes (spindle_field w 2))) (rotary_within (rotary_at w bytes 8)) (rotary_within (rotary_at w bytes (second_field w))) (record_good w bytes 8 0)
-      (record_good w bytes (second_field w) (byte_at bytes 8)) (has_direction (vector_at bytes 16)) (has_direction (vector_at bytes inner))
-      (record_good_is w bytes 8 0 0) (record_good_is w bytes (second_field w) (byte_at bytes 8) 1) (direction_finite (vector_at bytes (spindle_field w 2))))
+      (any_order (is_ok (zeros bytes 1 7)) (is_ok (rotary_fields bytes 8)) (is_ok (rotary_fields bytes (second_field w))) (is_ok (rotary_check (rotary_at w bytes 8) None 0)) (is_ok (rotary_check (rotary_at w bytes (second_field w)) (Some (byte_at bytes 8)) 1))
+      (all_finite (vector_at bytes (spindle_field w 2))) (has_direction (vector_at bytes (spindle_field w 2))) (rotary_within (rotary_at w bytes 8)) (rotary_within (rotary_at w bytes (second_field w))) (record_good w bytes 8 None)
+      (record_good w bytes (second_field w) (Some (byte_at bytes 8))) (has_direction (vector_at bytes 16)) (has_direction (vector_at bytes inner))
+      (record_good_is w bytes 8 None 0) (record_good_is w bytes (second_field w) (Some (byte_at bytes 8)) 1) (direction_finite (vector_at bytes (spindle_field w 2))))
 
   one_order : (is_ok (chain_fields w bytes 1) && (is_ok (chain_check (Read 1)) && chain_within (Read 1))) ≡ Tests 1
-  unfolding first_good second_good second_axis has_direction second_fields second_check chain_within chain_at second_at no_rotary rotary_at one_or_two
+  unfolding first_good second_good has_direction second_fields second_check chain_within chain_at second_at no_rotary rotary_at one_or_two
   one_order = rw (fields_passed 1, check_passed (Read 1) refl)
-      (any_order (is_ok (zeros bytes 1 7)) (is_ok (rotary_fields bytes 8)) true (is_ok (rotary_check (rotary_at w bytes 8) 0 0)) true (all_finite (vector_at bytes (spindle_field w 1))) (has_direction (vector_at bytes (spindle_field w 1)))
-      (rotary_within (rotary_at w bytes 8)) true (record_good w bytes 8 0) true (has_direction (vector_at bytes 16)) true
-      (record_good_is w bytes 8 0 0) refl (direction_finite (vector_at bytes (spindle_field w 1))))
+      (any_order (is_ok (zeros bytes 1 7)) (is_ok (rotary_fields bytes 8)) true (is_ok (rotary_check (rotary_at w bytes 8) None 0)) true (all_finite (vector_at bytes (spindle_field w 1))) (has_direction (vector_at bytes (spindle_field w 1)))
+      (rotary_within (rotary_at w bytes 8)) true (record_good w bytes 8 None) true (has_direction (vector_at bytes 16)) true
+      (record_good_is w bytes 8 None 0) refl (direction_finite (vector_at bytes (spindle_field w 1))))
 
   counted : (count : ℕ) → one_or_two count ≡ true → ready_counted w bytes count ≡ ready_read (chain_unless (chain_fields w bytes count) (Read count))
   counted zero h = absurd (none h)

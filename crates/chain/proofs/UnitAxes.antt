@@ -10,15 +10,13 @@ use Rattle.geometry.specs.declared.Vec3.{Vec3}
 use Rattle.geometry.specs.Direction.{all_finite, unit_direction, unit_or, along}
 use Rattle.geometry.proofs.FitVectors.{FitVec, unit_fits}
 use Rattle.geometry.proofs.UnitSize.{UnitSized, unit_size}
-use Rattle.chain.specs.declared.Carrier.{Carrier}
 use Rattle.chain.specs.declared.Kinematics.{Kinematics}
-use Rattle.chain.specs.declared.Mount.{Mount}
-use Rattle.chain.specs.declared.Mount.TheVariants.{Table, Head, Absent}
 use Rattle.chain.specs.declared.Prepared.{Prepared}
 use Rattle.chain.specs.declared.RotaryJoint.{RotaryJoint}
+use Rattle.chain.specs.declared.Spin.{Spin}
 use lib.Ieee.Scale.{finite}
 use Rattle.chain.specs.Check.{demand, then, travel_good, served, has_direction, known_letter, other_letter, rotary_check, one_or_two, second_check, chain_check}
-use Rattle.chain.specs.Prepared.{mount_of, unit_axis, spin_of, second_spin, prepared}
+use Rattle.chain.specs.Prepared.{unit_axis, spin_of, second_spin, prepared}
 use Rattle.chain.proofs.Passing.{then_passed, demand_passed, six_passed}
 
 -- the axes are of doubles, as those of every chain that code has
@@ -26,7 +24,7 @@ abbrev pub FitAxes : Kinematics → Type 0
 FitAxes k = FitVec k.first.axis × FitVec k.second.axis × FitVec k.spindle_axis
 
 -- ---- what the check says of directions
-rotary_direction : (j : RotaryJoint) (earlier i : ℕ) → rotary_check j earlier i ≡ Ok tt → has_direction j.axis ≡ true
+rotary_direction : (j : RotaryJoint) (earlier : Option ℕ) (i : ℕ) → rotary_check j earlier i ≡ Ok tt → has_direction j.axis ≡ true
 unfolding rotary_check
 rotary_direction j earlier i h =
     demand_passed (has_direction j.axis) Cause.RotaryAxisZero i
@@ -45,11 +43,11 @@ chain_passed k h =
     let count = demand (one_or_two k.count) Cause.RotaryCount 0 in
     let number = demand (all_finite k.spindle_axis) Cause.ChainNotFinite 0 in
     let direction = demand (has_direction k.spindle_axis) Cause.SpindleZero 0 in
-    let a = (then_passed count (then (rotary_check k.first 0 0) (then (second_check k) (then number direction))) h).1 in
-    let b = then_passed (rotary_check k.first 0 0) (then (second_check k) (then number direction)) a in
+    let a = (then_passed count (then (rotary_check k.first None 0) (then (second_check k) (then number direction))) h).1 in
+    let b = then_passed (rotary_check k.first None 0) (then (second_check k) (then number direction)) a in
     let c = then_passed (second_check k) (then number direction) b.1 in
     record {
-      first = rotary_direction k.first 0 0 b.0;
+      first = rotary_direction k.first None 0 b.0;
       second = c.0;
       spindle = demand_passed (has_direction k.spindle_axis) Cause.SpindleZero 0 (then_passed number direction c.1).1;
     }
@@ -64,47 +62,40 @@ directed v h = go (unit_direction v) h
     go None h = absurd (false≢true h)
 
 -- the second rotary's axis, where there is one
-abbrev pub SecondUnit : Mount → Vec3 → Type 0
-SecondUnit Absent v = Unit {0}
-SecondUnit Table v = UnitSized v
-SecondUnit Head v = UnitSized v
+abbrev pub SecondUnit : Option Spin → Type 0
+SecondUnit None = Unit {0}
+SecondUnit (Some s) = UnitSized s.axis
 
-abbrev pub SecondDirected : Mount → Vec3 → Vec3 → Type 0
-SecondDirected Absent given v = Unit {0}
-SecondDirected Table given v = unit_direction given ≡ Some v
-SecondDirected Head given v = unit_direction given ≡ Some v
+abbrev pub SecondDirected : Vec3 → Option Spin → Type 0
+SecondDirected given None = Unit {0}
+SecondDirected given (Some s) = unit_direction given ≡ Some s.axis
 
--- the second axis, by what is to hold of it
-module _ (k : Kinematics) (P : Mount → Vec3 → Type 0) (absent : P Absent k.second.axis) (carried : (c : Carrier) → has_direction k.second.axis ≡ true → P (mount_of c) (unit_axis k.second.axis)) where
-  second_by : second_check k ≡ Ok tt → P (second_spin k).mount (second_spin k).axis
-  unfolding second_check second_spin spin_of
+-- the second rotary, by what is to hold of it
+module _ (k : Kinematics) (P : Option Spin → Type 0) (absent : P None) (there : has_direction k.second.axis ≡ true → P (Some (spin_of k.second))) where
+  second_by : second_check k ≡ Ok tt → P (second_spin k)
+  unfolding second_check second_spin
   second_by h = go (eqb k.count 2) h
     where
-      go : (b : Bool) → cond b (rotary_check k.second k.first.letter 1) (Ok tt) ≡ Ok tt
-          → P (cond b (spin_of k.second) (record { mount = Absent; axis = k.second.axis; pivot = k.second.pivot })).mount (cond b (spin_of k.second) (record { mount = Absent; axis = k.second.axis; pivot = k.second.pivot })).axis
-      go true h = unfold spin_of in carried k.second.carrier (rotary_direction k.second k.first.letter 1 h)
+      go : (b : Bool) → cond b (rotary_check k.second (Some k.first.letter) 1) (Ok tt) ≡ Ok tt → P (cond b (Some (spin_of k.second)) None)
+      go true h = there (rotary_direction k.second (Some k.first.letter) 1 h)
       go false h = absent
 
 -- ---- the prepared axes are the unit vectors of the given ones: `unit_axis` does not fall back on a given axis
 pub record ChainDirections (k : Kinematics) : Type 0 where
   pub first : unit_direction k.first.axis ≡ Some (prepared k).first.axis
-  pub second : SecondDirected (prepared k).second.mount k.second.axis (prepared k).second.axis
+  pub second : SecondDirected k.second.axis (prepared k).second
   pub spindle : unit_direction k.spindle_axis ≡ Some (prepared k).spindle
 
 pub chain_directions : (k : Kinematics) → chain_check k ≡ Ok tt → ChainDirections k
 unfolding prepared spin_of
 chain_directions k h =
     let c = chain_passed k h in
-    record { first = directed k.first.axis c.first; second = second_by k (λ m v. SecondDirected m k.second.axis v) tt carried c.second; spindle = directed k.spindle_axis c.spindle }
-  where
-    carried : (c : Carrier) → has_direction k.second.axis ≡ true → SecondDirected (mount_of c) k.second.axis (unit_axis k.second.axis)
-    carried Carrier.Table h = directed k.second.axis h
-    carried Carrier.Head h = directed k.second.axis h
+    record { first = directed k.first.axis c.first; second = second_by k (SecondDirected k.second.axis) tt (directed k.second.axis) c.second; spindle = directed k.spindle_axis c.spindle }
 
 -- ---- and as long as unit vectors are
 pub record UnitChain (p : Prepared) : Type 0 where
   pub first : UnitSized p.first.axis
-  pub second : SecondUnit p.second.mount p.second.axis
+  pub second : SecondUnit p.second
   pub spindle : UnitSized p.spindle
   pub spindle_fits : FitVec p.spindle
 
@@ -117,11 +108,7 @@ chain_units k F h =
     let c = chain_passed k h in
     record {
       first = axis_sized k.first.axis F.0 c.first;
-      second = second_by k SecondUnit tt carried c.second;
+      second = second_by k SecondUnit tt (axis_sized k.second.axis F.1) c.second;
       spindle = axis_sized k.spindle_axis F.2 c.spindle;
       spindle_fits = unit_fits k.spindle_axis (unit_axis k.spindle_axis) (directed k.spindle_axis c.spindle);
     }
-  where
-    carried : (c : Carrier) → has_direction k.second.axis ≡ true → SecondUnit (mount_of c) (unit_axis k.second.axis)
-    carried Carrier.Table h = axis_sized k.second.axis F.1 h
-    carried Carrier.Head h = axis_sized k.second.axis F.1 h

@@ -49,10 +49,12 @@ has_direction v = served (unit_direction v)
 unfoldable pub known_letter : ℕ → Bool
 known_letter letter = not (ltb letter 65) && ltb letter 68
 
-unfoldable pub other_letter : ℕ → ℕ → Bool
-other_letter letter earlier = not (eqb letter earlier)
+-- not that of the rotary before it, where there is one
+abbrev pub other_letter : ℕ → Option ℕ → Bool
+other_letter letter None = true
+other_letter letter (Some earlier) = not (eqb letter earlier)
 
-unfoldable pub rotary_check : RotaryJoint → ℕ → ℕ → Checked
+unfoldable pub rotary_check : RotaryJoint → Option ℕ → ℕ → Checked
 rotary_check j earlier i =
     first_refusal
     (demand (known_letter j.letter) Cause.RotaryLetter i
@@ -69,13 +71,13 @@ unfoldable pub one_or_two : ℕ → Bool
 one_or_two count = not (ltb count 1) && ltb count 3
 
 unfoldable pub second_check : Kinematics → Checked
-second_check k = cond (eqb k.count 2) (rotary_check k.second k.first.letter 1) (Ok tt)
+second_check k = cond (eqb k.count 2) (rotary_check k.second (Some k.first.letter) 1) (Ok tt)
 
 unfoldable pub chain_check : Kinematics → Checked
 chain_check k =
     first_refusal
     (demand (one_or_two k.count) Cause.RotaryCount 0
-    ∷ rotary_check k.first 0 0
+    ∷ rotary_check k.first None 0
     ∷ second_check k
     ∷ demand (all_finite k.spindle_axis) Cause.ChainNotFinite 0
     ∷ demand (has_direction k.spindle_axis) Cause.SpindleZero 0

@@ -2,18 +2,19 @@
 use Rattle.std.specs.Prelude.{Bool, not, ◌&&◌, [], ◌∷◌, Float, Err, None, Ok, Option, Result, Some}
 use Rattle.std.specs.Float.Ieee as Ieee
 use Rattle.std.specs.Float.Ieee.Scale.{finite}
-use Rattle.float.specs.Helpers.{nought, one}
+use Rattle.float.specs.Helpers.{nought}
 use Rattle.geometry.specs.declared.Vec3.{Vec3}
 use Rattle.geometry.specs.declared.Turn.{Turn}
 use Rattle.geometry.specs.Vector.{add, sub, scale}
 use Rattle.geometry.specs.Turn.{turn_of, turned_back, rotate_vector, rotate_point}
+use Rattle.geometry.specs.Turn as Turning
 use Rattle.geometry.specs.Direction.{unit_direction, unit_or}
 use Rattle.refusal.specs.declared.Refusal.{Refusal}
 use Rattle.refusal.specs.Numbers.{refusal}
 use Rattle.refusal.specs.declared.Cause.{Cause}
 use Rattle.chain.specs.Checked.{Checked}
-use Rattle.chain.specs.declared.Mount.{Mount}
-use Rattle.chain.specs.declared.Mount.TheVariants.{Table, Head, Absent}
+use Rattle.chain.specs.declared.Carrier.{Carrier}
+use Rattle.chain.specs.declared.Carrier.TheVariants.{Table, Head}
 use Rattle.chain.specs.declared.Spin.{Spin}
 use Rattle.chain.specs.declared.Prepared.{Prepared}
 use Rattle.chain.specs.declared.Turns.{Turns}
@@ -23,72 +24,84 @@ use Rattle.chain.specs.declared.Kinematics.{Kinematics}
 use Rattle.chain.specs.Check.{demand, first_refusal, chain_check, within, longest, joints_finite, joints_within, chain_within}
 use Rattle.chain.specs.Prepared.{prepared}
 
+-- of the second rotary, where there is one
+abbrev pub of_second : {A : Type 0} → Option Spin → A → (Spin → A) → A
+of_second (Some s) without with = with s
+of_second None without with = without
+
+-- what it makes of a point or a vector
+abbrev pub by_second : Option Spin → (Spin → Vec3 → Vec3) → Vec3 → Vec3
+by_second s move v = of_second s v (λ s. move s v)
+
 -- ---- the turns
 abbrev pub still : Turn
-still = record { sine = nought; cosine = one }
+still = Turning.still
 
-abbrev pub swing : Mount → Float → Turn
-swing Table angle = turn_of (Ieee.neg angle)
-swing Head angle = turn_of angle
-swing Absent angle = still
+-- a head by its angle, a table by the negated one
+abbrev pub forward_angle : Carrier → Float → Float
+forward_angle Table angle = Ieee.neg angle
+forward_angle Head angle = angle
+
+-- by what makes a turn of an angle
+abbrev pub turns_by : (Float → Turn) → Prepared → Float → Float → Turns
+turns_by turn p a0 a1 = record { first = turn (forward_angle p.first.carrier a0); second = of_second p.second still (λ s. turn (forward_angle s.carrier a1)) }
+
+abbrev pub swing : Carrier → Float → Turn
+swing c angle = turn_of (forward_angle c angle)
 
 unfoldable pub turns_of : Prepared → Float → Float → Turns
-turns_of p a0 a1 = record { first = swing p.first.mount a0; second = swing p.second.mount a1 }
+turns_of p a0 a1 = turns_by turn_of p a0 a1
 
 -- the tables forth, for the position
-abbrev pub swing_forth : Mount → Float → Turn
+abbrev pub swing_forth : Carrier → Float → Turn
 swing_forth Table angle = turn_of angle
 swing_forth Head angle = still
-swing_forth Absent angle = still
 
 unfoldable pub tables_forth : Prepared → Float → Float → Turns
-tables_forth p a0 a1 = record { first = swing_forth p.first.mount a0; second = swing_forth p.second.mount a1 }
+tables_forth p a0 a1 = record { first = swing_forth p.first.carrier a0; second = of_second p.second still (λ s. swing_forth s.carrier a1) }
 
 -- the same, from the turns by which forward moves the rotaries: a table's is the turn back
-abbrev pub swing_from : Mount → Turn → Turn
+abbrev pub swing_from : Carrier → Turn → Turn
 swing_from Table back = turned_back back
 swing_from Head back = still
-swing_from Absent back = still
 
 unfoldable pub forth_from : Prepared → Turns → Turns
-forth_from p back = record { first = swing_from p.first.mount back.first; second = swing_from p.second.mount back.second }
+forth_from p back = record { first = swing_from p.first.carrier back.first; second = of_second p.second still (λ s. swing_from s.carrier back.second) }
 
 -- ---- one rotary: a head moves what is on the tool side, a table what is on the part side
-abbrev pub by_head : {A : Type 0} → Mount → A → A → A
-by_head Head moved still = moved
-by_head Table moved still = still
-by_head Absent moved still = still
+abbrev pub by_head : {A : Type 0} → Carrier → A → A → A
+by_head Head moved unmoved = moved
+by_head Table moved unmoved = unmoved
 
-abbrev pub by_table : {A : Type 0} → Mount → A → A → A
-by_table Table moved still = moved
-by_table Head moved still = still
-by_table Absent moved still = still
+abbrev pub by_table : {A : Type 0} → Carrier → A → A → A
+by_table Table moved unmoved = moved
+by_table Head moved unmoved = unmoved
 
 unfoldable pub head_point : Spin → Turn → Vec3 → Vec3
-head_point s turn p = by_head s.mount (rotate_point s.axis s.pivot p turn) p
+head_point s turn p = by_head s.carrier (rotate_point s.axis s.pivot p turn) p
 
 unfoldable pub head_vector : Spin → Turn → Vec3 → Vec3
-head_vector s turn v = by_head s.mount (rotate_vector s.axis v turn) v
+head_vector s turn v = by_head s.carrier (rotate_vector s.axis v turn) v
 
 unfoldable pub table_point : Spin → Turn → Vec3 → Vec3
-table_point s turn p = by_table s.mount (rotate_point s.axis s.pivot p turn) p
+table_point s turn p = by_table s.carrier (rotate_point s.axis s.pivot p turn) p
 
 unfoldable pub table_vector : Spin → Turn → Vec3 → Vec3
-table_vector s turn v = by_table s.mount (rotate_vector s.axis v turn) v
+table_vector s turn v = by_table s.carrier (rotate_vector s.axis v turn) v
 
 -- ---- the chain: heads from the inner joint outwards, then tables back from the outer joint inwards
 unfoldable pub reach_axis : Prepared → Turns → Vec3
 reach_axis p t =
-    table_vector p.second t.second
+    by_second p.second (λ s. table_vector s t.second)
     (table_vector p.first t.first
-    (head_vector p.first t.first (head_vector p.second t.second p.spindle)))
+    (head_vector p.first t.first (by_second p.second (λ s. head_vector s t.second) p.spindle)))
 
 unfoldable pub reach : Prepared → Turns → Vec3 → Float → ToolPose
 reach p t xyz tool = record {
   tip =
-      table_point p.second t.second
+      by_second p.second (λ s. table_point s t.second)
       (table_point p.first t.first
-      (add xyz (head_point p.first t.first (head_point p.second t.second (scale p.spindle (Ieee.neg tool))))));
+      (add xyz (head_point p.first t.first (by_second p.second (λ s. head_point s t.second) (scale p.spindle (Ieee.neg tool))))));
   axis = reach_axis p t;
 }
 
@@ -98,7 +111,7 @@ forward_core p t xyz tool = record { tip = (reach p t xyz tool).tip; axis = unit
 
 -- the gauge position for a tip, from the tip that forward reaches at position zero; the tables turned forth
 unfoldable pub position : Prepared → Turns → Vec3 → Vec3 → Vec3
-position p forth tip tip0 = table_vector p.first forth.first (table_vector p.second forth.second (sub tip tip0))
+position p forth tip tip0 = table_vector p.first forth.first (by_second p.second (λ s. table_vector s forth.second) (sub tip tip0))
 
 -- ---- the entry
 unfoldable pub length_good : Float → Bool

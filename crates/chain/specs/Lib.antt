@@ -1,5 +1,5 @@
 pub mod Checked
--- `Bytes`, `ChainBytes`: a chain from its bytes. `Check`: the lists of checks. `Prepared`: a chain with unit axes. `Forward`: from joints to the tool's pose. `Ready`: a chain that a call serves; `ReadySteps`: its inner functions. `Examples`: chain bytes, worked out.
+-- `Bytes`, `ChainBytes`: a chain from its bytes. `Check`: the lists of checks. `Prepared`: a chain with unit axes. `Forward`: from joints to the tool's pose. `Ready`: a chain that a call serves; `ReadySteps`: its inner functions. `Angles`: the angle of one rotary. `Examples`: chain bytes, worked out.
 pub mod Bytes
 pub mod ChainBytes
 pub mod Check
@@ -7,4 +7,5 @@ pub mod Prepared
 pub mod Forward
 pub mod Ready
 pub mod ReadySteps
+pub mod Angles
 pub mod Examples

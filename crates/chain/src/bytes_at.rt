@@ -13,7 +13,7 @@ pub fn byte_at(bytes: &[u8], at: usize) -> u8
     bytes.get(at).copied().unwrap_or(0)
 }
 
-// Bytes past the end count as 0.
+// Bytes past the end count as 0, so it is not by `first_chunk`, which is None where one byte is left.
 pub fn u16_at(bytes: &[u8], at: usize) -> u16
     ensures { result ≡ S.little_endian 2 bytes.now at }
 {
@@ -27,16 +27,7 @@ pub fn word_at(bytes: &[u8], at: usize) -> u64
     requires { at + 8 ≤ length bytes.now }
     ensures { result ≡ S.little_endian 8 bytes.now at }
 {
-    u64::from_le_bytes([
-        bytes[at],
-        bytes[at + 1],
-        bytes[at + 2],
-        bytes[at + 3],
-        bytes[at + 4],
-        bytes[at + 5],
-        bytes[at + 6],
-        bytes[at + 7],
-    ])
+    u64::from_le_bytes(*bytes[at..at + 8].first_chunk().unwrap())
 }
 
 // The float of a bit pattern.
@@ -46,6 +37,7 @@ pub fn number_of(bits: u64) -> f64
     std::num::f64_from_bits_with_nan(bits)
 }
 
+#[tactic(auto, unfolding(crate::specs::Bytes::number_at))]
 pub fn number_at(bytes: &[u8], at: usize) -> f64
     requires { at + 8 ≤ length bytes.now }
     ensures { result ≡ S.number_at bytes.now at }
@@ -53,6 +45,7 @@ pub fn number_at(bytes: &[u8], at: usize) -> f64
     number_of(word_at(bytes, at))
 }
 
+#[tactic(auto, unfolding(crate::specs::Bytes::vector_at))]
 pub fn vector_at(bytes: &[u8], at: usize) -> Vec3
     requires { at + 24 ≤ length bytes.now }
     ensures { result ≡ S.vector_at bytes.now at }

@@ -28,14 +28,15 @@ pub fn zeros(bytes: &[u8], at: usize, n: usize) -> Result<(), Refusal>
 }
 
 // 0 or 1.
+#[tactic(auto, unfolding(crate::specs::ChainBytes::flag))]
 pub fn flag(bytes: &[u8], at: usize) -> bool
     ensures { result ≡ S.flag bytes.now at }
 {
     byte_at(bytes, at) < 2
 }
 
-// Records are read by an offset and not as a value of their own: two of these are public and promised so, and the
-// others would be `Record { bytes, at, w }.travel()` for `travel_at(bytes, at)`.
+// Records are read by an offset and not as a value of their own with its bound: `rotary_fields` and `travel_at` go by
+// the 72 bytes of either kind, so that a `Record { bytes, at, w }` would ask for more than they read.
 // What the bytes of a rotary's record must be, the letter aside.
 #[tactic(auto, unfolding(crate::specs::ChainBytes::rotary_fields))]
 pub fn rotary_fields(bytes: &[u8], at: usize) -> Result<(), Refusal>
@@ -57,7 +58,9 @@ pub fn rotary_fields(bytes: &[u8], at: usize) -> Result<(), Refusal>
     )
 }
 
-// No `From<u8>`: a byte that is neither 0 nor 1 is refused elsewhere, and here it is a head.
+// No `From<u8>`: not every byte is a carrier, and `Carrier::from(byte)` would read so. What is neither 0 nor 1 is
+// refused by `rotary_fields`, and is a head here.
+#[tactic(auto, unfolding(crate::specs::ChainBytes::carrier_of))]
 pub fn carrier_of(byte: u8) -> Carrier
     ensures { result ≡ S.carrier_of byte }
 {
@@ -67,19 +70,19 @@ pub fn carrier_of(byte: u8) -> Carrier
     Carrier::Head
 }
 
+#[tactic(auto, unfolding(crate::specs::ChainBytes::travel_at))]
 pub fn travel_at(bytes: &[u8], at: usize) -> Option<RotaryLimits>
     requires { at + 72 ≤ length bytes.now }
     ensures { result ≡ S.travel_at bytes.now at }
 {
-    if byte_at(bytes, at + 2) == 0 {
-        return None;
-    }
-    let min = number_at(bytes, at + 56);
-    let max = number_at(bytes, at + 64);
-    Some(RotaryLimits { min, max })
+    (byte_at(bytes, at + 2) != 0).then(|| RotaryLimits {
+        min: number_at(bytes, at + 56),
+        max: number_at(bytes, at + 64),
+    })
 }
 
 // The rest angle in a record of w bytes, +0.0 where it has none.
+#[tactic(auto, unfolding(crate::specs::ChainBytes::rest_at))]
 pub fn rest_at(w: usize, bytes: &[u8], at: usize) -> f64
     requires { at + w ≤ length bytes.now }
     ensures { result ≡ S.rest_at w bytes.now at }
@@ -91,6 +94,7 @@ pub fn rest_at(w: usize, bytes: &[u8], at: usize) -> f64
 }
 
 // The rotary whose record of w bytes starts there.
+#[tactic(auto, unfolding(crate::specs::ChainBytes::rotary_at))]
 pub fn rotary_at(w: usize, bytes: &[u8], at: usize) -> RotaryJoint
     requires { (72 ≤ w) × (at + w ≤ length bytes.now) }
     ensures { result ≡ S.rotary_at w bytes.now at }
@@ -112,40 +116,21 @@ pub fn rotary_at(w: usize, bytes: &[u8], at: usize) -> RotaryJoint
 }
 
 // What stands for a rotary that is not there.
+#[tactic(auto, unfolding(crate::specs::ChainBytes::no_rotary))]
 pub fn no_rotary() -> RotaryJoint
     ensures { result ≡ S.no_rotary }
 {
-    let zero = Vec3 {
-        x: 0.0,
-        y: 0.0,
-        z: 0.0,
-    };
-    RotaryJoint {
-        letter: 0,
-        carrier: Carrier::Table,
-        limits: None,
-        axis: zero,
-        pivot: zero,
-        rest: 0.0,
-    }
+    RotaryJoint::default()
 }
 
 // A chain of that count and nothing else, for the chain check to refuse.
+#[tactic(auto, unfolding(crate::specs::ChainBytes::no_chain, crate::specs::ChainBytes::no_rotary))]
 fn no_chain(count: u8) -> Kinematics
     ensures { result ≡ S.no_chain count }
 {
-    let first = no_rotary();
-    let second = no_rotary();
-    let spindle_axis = Vec3 {
-        x: 0.0,
-        y: 0.0,
-        z: 0.0,
-    };
     Kinematics {
         count,
-        first,
-        second,
-        spindle_axis,
+        ..Kinematics::default()
     }
 }
 
@@ -154,31 +139,23 @@ impl ChainBytes<'_> {
     pub fn second(self) -> Option<usize>
         ensures { MatchOption result (eqb self.entry.count 2 ≡ false) (λ at. (eqb self.entry.count 2 ≡ true) × (at ≡ 8 + self.entry.w) × (at + self.entry.w ≤ length self.entry.bytes.now)) }
     {
-        if self.count == 2 {
-            Some(8 + self.w)
-        } else {
-            None
-        }
+        (self.count == 2).then(|| 8 + self.w)
     }
 
     #[tactic(auto, unfolding(crate::specs::ChainBytes::second_fields))]
     fn second_fields(self) -> Result<(), Refusal>
         ensures { result ≡ S.second_fields self.entry.w self.entry.bytes.now self.entry.count }
     {
-        match self.second() {
-            Some(at) => rotary_fields(self.bytes, at),
-            None => Ok(()),
-        }
+        self.second()
+            .map_or(Ok(()), |at| rotary_fields(self.bytes, at))
     }
 
     #[tactic(auto, unfolding(crate::specs::ChainBytes::second_at))]
     fn second_at(self) -> RotaryJoint
         ensures { result ≡ S.second_at self.entry.w self.entry.bytes.now self.entry.count }
     {
-        match self.second() {
-            Some(at) => rotary_at(self.w, self.bytes, at),
-            None => no_rotary(),
-        }
+        self.second()
+            .map_or(no_rotary(), |at| rotary_at(self.w, self.bytes, at))
     }
 
     // What the bytes must be.
@@ -210,12 +187,6 @@ impl ChainBytes<'_> {
     }
 }
 
-fn malformed(at: u64) -> Result<Kinematics, Refusal>
-    ensures { result ≡ S.malformed at }
-{
-    Err(Refusal::new(Cause::Malformed, at))
-}
-
 // How long a record is, by the length of the chain.
 #[tactic(auto, unfolding(crate::specs::ChainBytes::record_length))]
 pub fn record_length(length: usize, count: u8) -> usize
@@ -239,21 +210,18 @@ fn read_count(w: usize, bytes: &[u8], count: u8) -> Result<Kinematics, Refusal>
     if !one_or_two(count) {
         return Ok(no_chain(count));
     }
-    if bytes.len() != 32 + w * count as usize {
-        return malformed(0);
-    }
+    demand(bytes.len() == 32 + w * count as usize, Cause::Malformed, 0)?;
     let chain = ChainBytes { bytes, w, count };
     chain.chain_fields()?;
     Ok(chain.chain_at())
 }
 
 // The chain, or the first breach of its bytes.
+#[tactic(auto, unfolding(crate::specs::ChainBytes::read_chain, crate::specs::ChainBytes::read_counted))]
 pub fn read_chain(bytes: &[u8]) -> Result<Kinematics, Refusal>
     ensures { result ≡ S.read_chain bytes.now }
 {
-    if bytes.len() < 1 {
-        return malformed(0);
-    }
+    demand(!bytes.is_empty(), Cause::Malformed, 0)?;
     let count = byte_at(bytes, 0);
     let w = record_length(bytes.len(), count);
     read_count(w, bytes, count)

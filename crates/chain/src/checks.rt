@@ -1,13 +1,13 @@
 // The chain check, the size check, and what every call's list of checks is made of. A check answers; a list of checks
 // answers with its first refusal.
-ghost use Rattle.std.specs.Prelude.{◌≡◌, true, cond, eqb};
+ghost use Rattle.std.specs.Prelude.{◌≡◌, true, false, cond, eqb, MatchOption};
 ghost use Rattle.chain.specs.Check as S;
 
 use crate::{Joints, Kinematics, RotaryJoint, RotaryLimits};
 use geometry::Vec3;
 use refusal::{Cause, Refusal};
 
-// Passed where `ok`, else refused with that number and place.
+// Ok where `ok`, else refused with that cause and place.
 pub fn demand(ok: bool, cause: Cause, at: u64) -> Result<(), Refusal>
     ensures { result ≡ S.demand ok cause at }
 {
@@ -27,15 +27,21 @@ impl RotaryLimits {
     }
 }
 
+impl Kinematics {
+    // The second rotary, where the count says that there is one.
+    pub fn second_rotary(self) -> Option<RotaryJoint>
+        ensures { MatchOption result (eqb self.count 2 ≡ false) (λ j. (eqb self.count 2 ≡ true) × (j ≡ self.second)) }
+    {
+        (self.count == 2).then_some(self.second)
+    }
+}
+
 // Two finite numbers, the first below the second.
 #[tactic(auto, unfolding(crate::specs::Check::travel_good))]
 pub fn travel_good(travel: Option<RotaryLimits>) -> bool
     ensures { result ≡ S.travel_good travel }
 {
-    let Some(l) = travel else {
-        return true;
-    };
-    float::finite(l.min) && float::finite(l.max) && l.min < l.max
+    travel.is_none_or(|l| float::finite(l.min) && float::finite(l.max) && l.min < l.max)
 }
 
 pub fn has_direction(v: Vec3) -> bool
@@ -52,15 +58,16 @@ pub fn known_letter(letter: u8) -> bool
     matches!(letter, b'A'..=b'C')
 }
 
-pub fn other_letter(letter: u8, earlier: u8) -> bool
+// Not that of the rotary before it, where there is one.
+pub fn other_letter(letter: u8, earlier: Option<u8>) -> bool
     ensures { result ≡ S.other_letter letter earlier }
 {
-    letter != earlier
+    earlier.is_none_or(|e| letter != e)
 }
 
-// One rotary, whole. `earlier` is the letter of the rotary before it, 0 where there is none.
+// One rotary, whole. `earlier` is the letter of the rotary before it.
 #[tactic(auto, unfolding(crate::specs::Check::rotary_check))]
-fn rotary_check(j: RotaryJoint, earlier: u8, index: u64) -> Result<(), Refusal>
+fn rotary_check(j: RotaryJoint, earlier: Option<u8>, index: u64) -> Result<(), Refusal>
     ensures { result ≡ S.rotary_check j earlier index }
 {
     demand(known_letter(j.letter), Cause::RotaryLetter, index)?;
@@ -76,10 +83,10 @@ fn rotary_check(j: RotaryJoint, earlier: u8, index: u64) -> Result<(), Refusal>
 fn second_check(k: Kinematics) -> Result<(), Refusal>
     ensures { result ≡ S.second_check k }
 {
-    if k.count == 2 {
-        return rotary_check(k.second, k.first.letter, 1);
+    match k.second_rotary() {
+        Some(j) => rotary_check(j, Some(k.first.letter), 1),
+        None => Ok(()),
     }
-    Ok(())
 }
 
 #[tactic(auto, unfolding(crate::specs::Check::one_or_two))]
@@ -95,7 +102,7 @@ pub fn chain_check(k: Kinematics) -> Result<(), Refusal>
     ensures { result ≡ S.chain_check k }
 {
     demand(one_or_two(k.count), Cause::RotaryCount, 0)?;
-    rotary_check(k.first, 0, 0)?;
+    rotary_check(k.first, None, 0)?;
     second_check(k)?;
     demand(
         geometry::all_finite(k.spindle_axis),
@@ -106,6 +113,7 @@ pub fn chain_check(k: Kinematics) -> Result<(), Refusal>
 }
 
 // No more than the limit in size.
+#[tactic(auto, unfolding(crate::specs::Check::within))]
 pub fn within(x: f64, limit: f64) -> bool
     ensures { result ≡ S.within x limit }
 {
@@ -132,9 +140,10 @@ fn rotary_within(j: RotaryJoint) -> bool
 pub fn chain_within(k: Kinematics) -> bool
     ensures { result ≡ S.chain_within k }
 {
-    rotary_within(k.first) && (k.count != 2 || rotary_within(k.second))
+    rotary_within(k.first) && k.second_rotary().is_none_or(rotary_within)
 }
 
+#[tactic(auto, unfolding(crate::specs::Check::chain_sizes))]
 pub fn chain_sizes(k: Kinematics) -> Result<(), Refusal>
     ensures { result ≡ S.chain_sizes k }
 {

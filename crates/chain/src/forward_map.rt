@@ -1,6 +1,7 @@
 // The forward map: from the gauge point and the angles to the tool's tip and axis in the part frame. Heads move the
 // tool, inner joint first; the part frame follows by turning the tables back, outer joint first.
-ghost use Rattle.std.specs.Prelude.{◌+◌, ◌*◌, ◌≤◌, ◌≡◌, length};
+ghost use Rattle.std.specs.Prelude.{◌+◌, ◌*◌, ◌≤◌, ◌≡◌, length, Float};
+ghost use Rattle.geometry.specs.declared.Turn.{Turn};
 ghost use Rattle.chain.specs.ChainBytes.{read_chain};
 ghost use Rattle.chain.specs.Forward as S;
 ghost use Rattle.chain.specs.ReadySteps as Steps;
@@ -11,47 +12,51 @@ use crate::checks::{
     chain_check, chain_within, demand, joints_finite, joints_within, one_or_two, within,
 };
 use crate::prepare_chain::prepare;
-use crate::{ChainBytes, Joints, Kinematics, Mount, Prepared, Spin, ToolPose, Turns};
+use crate::ready_chain::spin_at;
+use crate::{Carrier, ChainBytes, Joints, Kinematics, Prepared, Spin, ToolPose, Turns};
 use geometry::{Turn, Vec3};
 use refusal::{Cause, Refusal};
 
-// How forward turns a rotary: a head by its angle, a table by the negated angle.
-fn swing(mount: Mount, angle: f64) -> Turn
-    ensures { result ≡ S.swing mount angle }
+// By which angle forward turns a rotary: a head by its own, a table by the negated one.
+fn forward_angle(carrier: Carrier, angle: f64) -> f64
+    ensures { result ≡ S.forward_angle carrier angle }
 {
-    match mount {
-        Mount::Table => Turn::of(-angle),
-        Mount::Head => Turn::of(angle),
-        Mount::Absent => Turn {
-            sine: 0.0,
-            cosine: 1.0,
-        },
+    match carrier {
+        Carrier::Table => -angle,
+        Carrier::Head => angle,
     }
+}
+
+// By what makes a turn of an angle: `Turn::of`, or the table of a Hirth coupling. The angles are two numbers: some
+// callers have them in `Joints`, some in inverse's `Angles`, and each is of one rotary here.
+pub fn turns_by<F: Fn(f64) -> Turn>(p: Prepared, a0: f64, a1: f64, turn: F) -> Turns
+    requires { F.IsAlwaysCallable turn }
+    ensures { (t : Float → Turn) → ((x : Float) (r : Turn) → F.post turn x r → r ≡ t x) → result ≡ S.turns_by t p a0 a1 }
+{
+    let first = turn(forward_angle(p.first.carrier, a0));
+    let second = match p.second {
+        Some(s) => turn(forward_angle(s.carrier, a1)),
+        None => Turn::still(),
+    };
+    Turns { first, second }
 }
 
 pub fn turns_of(p: Prepared, a0: f64, a1: f64) -> Turns
     ensures { result ≡ S.turns_of p a0 a1 }
 {
-    let outer = p.first;
-    let inner = p.second;
-    let outer_mount = outer.mount;
-    let inner_mount = inner.mount;
-    let first = swing(outer_mount, a0);
-    let second = swing(inner_mount, a1);
-    Turns { first, second }
+    turns_by(p, a0, a1, Turn::of)
 }
 
-// These four stay apart: one function of a mount and a kind of turn would be `moved(s, Mount::Head, turn, point)` for
-// `head_point(s, turn, point)`.
+// These four stay apart: one function of a carrier and a kind of turn would be
+// `moved(s, Carrier::Head, turn, point)` for `head_point(s, turn, point)`.
 // A point moved by a rotary of the head; a table leaves it.
 #[tactic(auto, unfolding(crate::specs::Forward::head_point))]
 pub fn head_point(s: Spin, turn: Turn, point: Vec3) -> Vec3
     ensures { result ≡ S.head_point s turn point }
 {
-    let mount = s.mount;
-    match mount {
-        Mount::Head => geometry::rotate_point(s.axis, s.pivot, point, turn),
-        Mount::Table | Mount::Absent => point,
+    match s.carrier {
+        Carrier::Head => geometry::rotate_point(s.axis, s.pivot, point, turn),
+        Carrier::Table => point,
     }
 }
 
@@ -59,10 +64,9 @@ pub fn head_point(s: Spin, turn: Turn, point: Vec3) -> Vec3
 pub fn head_vector(s: Spin, turn: Turn, v: Vec3) -> Vec3
     ensures { result ≡ S.head_vector s turn v }
 {
-    let mount = s.mount;
-    match mount {
-        Mount::Head => geometry::rotate_vector(s.axis, v, turn),
-        Mount::Table | Mount::Absent => v,
+    match s.carrier {
+        Carrier::Head => geometry::rotate_vector(s.axis, v, turn),
+        Carrier::Table => v,
     }
 }
 
@@ -70,10 +74,9 @@ pub fn head_vector(s: Spin, turn: Turn, v: Vec3) -> Vec3
 pub fn table_point(s: Spin, turn: Turn, point: Vec3) -> Vec3
     ensures { result ≡ S.table_point s turn point }
 {
-    let mount = s.mount;
-    match mount {
-        Mount::Table => geometry::rotate_point(s.axis, s.pivot, point, turn),
-        Mount::Head | Mount::Absent => point,
+    match s.carrier {
+        Carrier::Table => geometry::rotate_point(s.axis, s.pivot, point, turn),
+        Carrier::Head => point,
     }
 }
 
@@ -81,36 +84,48 @@ pub fn table_point(s: Spin, turn: Turn, point: Vec3) -> Vec3
 pub fn table_vector(s: Spin, turn: Turn, v: Vec3) -> Vec3
     ensures { result ≡ S.table_vector s turn v }
 {
-    let mount = s.mount;
-    match mount {
-        Mount::Table => geometry::rotate_vector(s.axis, v, turn),
-        Mount::Head | Mount::Absent => v,
+    match s.carrier {
+        Carrier::Table => geometry::rotate_vector(s.axis, v, turn),
+        Carrier::Head => v,
     }
 }
 
+// The chain and its turns stay two arguments: one chain goes with two kinds of turns, back to `reach` and forth to
+// `position`, and each call would write `Turned { p: &p, turns }`.
 // The tip, and the axis before it is normalised.
+#[tactic(auto, unfolding(crate::specs::Forward::reach))]
 fn reach(p: Prepared, turns: Turns, xyz: Vec3, tool_length: f64) -> ToolPose
     ensures { result ≡ S.reach p turns xyz tool_length }
 {
     let gauge = p.spindle * -tool_length;
-    let inner = head_point(p.second, turns.second, gauge);
+    let inner = p
+        .second
+        .map_or(gauge, |s| head_point(s, turns.second, gauge));
     let machine = xyz + head_point(p.first, turns.first, inner);
     let outer = table_point(p.first, turns.first, machine);
-    let tip = table_point(p.second, turns.second, outer);
+    let tip = p
+        .second
+        .map_or(outer, |s| table_point(s, turns.second, outer));
     let axis = reach_axis(p, turns);
     ToolPose { tip, axis }
 }
 
+#[tactic(auto, unfolding(crate::specs::Forward::reach_axis))]
 fn reach_axis(p: Prepared, turns: Turns) -> Vec3
     ensures { result ≡ S.reach_axis p turns }
 {
-    let inner = head_vector(p.second, turns.second, p.spindle);
+    let spindle = p.spindle;
+    let inner = p
+        .second
+        .map_or(spindle, |s| head_vector(s, turns.second, spindle));
     let machine = head_vector(p.first, turns.first, inner);
     let outer = table_vector(p.first, turns.first, machine);
-    table_vector(p.second, turns.second, outer)
+    p.second
+        .map_or(outer, |s| table_vector(s, turns.second, outer))
 }
 
 // Forward, total: where the reached axis has no direction it is the unit spindle.
+#[tactic(auto, unfolding(crate::specs::Forward::forward_core))]
 pub fn forward_core(p: Prepared, turns: Turns, xyz: Vec3, tool_length: f64) -> ToolPose
     ensures { result ≡ S.forward_core p turns xyz tool_length }
 {
@@ -122,10 +137,12 @@ pub fn forward_core(p: Prepared, turns: Turns, xyz: Vec3, tool_length: f64) -> T
 
 // The gauge position that puts the tip on the wanted one: the difference of the two, in the machine frame. `forth`
 // turns each table by its angle.
+#[tactic(auto, unfolding(crate::specs::Forward::position))]
 pub fn position(p: Prepared, forth: Turns, tip: Vec3, tip0: Vec3) -> Vec3
     ensures { result ≡ S.position p forth tip tip0 }
 {
-    let inner = table_vector(p.second, forth.second, tip - tip0);
+    let gap = tip - tip0;
+    let inner = p.second.map_or(gap, |s| table_vector(s, forth.second, gap));
     table_vector(p.first, forth.first, inner)
 }
 
@@ -137,6 +154,8 @@ pub fn length_good(tool_length: f64) -> bool
     float::finite(tool_length) && !(tool_length < 0.0)
 }
 
+// The joints and the tool's length stay two arguments of these: a struct of both would be made by the public functions,
+// which have them apart as C has, and taken apart again: sizes are judged one by one, and `reach` takes no angle.
 #[tactic(auto, unfolding(crate::specs::Forward::forward_sizes))]
 fn forward_sizes(k: Kinematics, j: Joints, tool_length: f64) -> bool
     ensures { result ≡ S.forward_sizes k j tool_length }
@@ -155,6 +174,7 @@ fn forward_check(k: Kinematics, j: Joints, tool_length: f64) -> Result<(), Refus
 }
 
 // The reached pose with its unit axis.
+#[tactic(auto, unfolding(crate::specs::Forward::posed))]
 fn posed(reached: ToolPose) -> Result<ToolPose, Refusal>
     ensures { result ≡ S.posed reached }
 {
@@ -202,80 +222,80 @@ fn refused_read(
     refused_by(forward_check(read?, j, tool_length))
 }
 
-// With numbers that serve: the prepared chain does not leave this function.
-#[tactic(auto, unfolding(crate::specs::ReadySteps::forward_counted, crate::specs::ReadySteps::ready_counted))]
-fn forward_counted(chain: ChainBytes, j: Joints, tool_length: f64) -> Result<ToolPose, Refusal>
-    ensures { result ≡ Steps.forward_counted chain.entry.w chain.entry.bytes.now chain.entry.count j tool_length }
-{
-    let bytes = chain.bytes;
-    if !chain.first_good() {
-        return refused_read(read_chain(bytes), j, tool_length);
+impl ChainBytes<'_> {
+    // What `reach` answers, where every check of the chain passes. The prepared chain does not leave this function.
+    #[tactic(auto, unfolding(crate::specs::ReadySteps::reached_counted, crate::specs::ReadySteps::ready_counted))]
+    fn reached(self, j: Joints, tool_length: f64) -> Option<ToolPose>
+        ensures { result ≡ Steps.reached_counted self.entry.w self.entry.bytes.now self.entry.count j tool_length }
+    {
+        if !self.first_good() {
+            return None;
+        }
+        if !self.second_good() {
+            return None;
+        }
+        let axis = geometry::unit_direction(vector_at(self.bytes, 16))?;
+        let second = self.directed_second()?;
+        let spindle = geometry::unit_direction(self.spindle_axis())?;
+        let p = Prepared {
+            first: spin_at(self.bytes, 8, axis),
+            second,
+            spindle,
+        };
+        let turns = turns_of(p, j.a0, j.a1);
+        Some(reach(p, turns, j.xyz, tool_length))
     }
-    if !chain.second_good() {
-        return refused_read(read_chain(bytes), j, tool_length);
-    }
-    let Some(axis) = geometry::unit_direction(vector_at(bytes, 16)) else {
-        return refused_read(read_chain(bytes), j, tool_length);
-    };
-    let Some(inner) = chain.second_axis() else {
-        return refused_read(read_chain(bytes), j, tool_length);
-    };
-    let Some(spindle) = geometry::unit_direction(chain.spindle_axis()) else {
-        return refused_read(read_chain(bytes), j, tool_length);
-    };
-    let p = chain.prepared_at(axis, inner, spindle);
-    let turns = turns_of(p, j.a0, j.a1);
-    posed(reach(p, turns, j.xyz, tool_length))
 }
 
-// `forward` of a chain's bytes: the chain is prepared while it is checked, and the refusal is looked up only where
-// there is one.
-pub fn forward_from(bytes: &[u8], j: Joints, tool_length: f64) -> Result<ToolPose, Refusal>
-    ensures { result ≡ S.forward_read (read_chain bytes.now) j tool_length }
+// The chain is prepared while it is checked. None is no refusal yet: it says that the list of checks has one.
+fn reached_from(bytes: &[u8], j: Joints, tool_length: f64) -> Option<ToolPose>
+    ensures { Steps.told result (read_chain bytes.now) j tool_length ≡ S.forward_read (read_chain bytes.now) j tool_length }
 {
     if !numbers_good(j, tool_length) {
-        return refused_read(read_chain(bytes), j, tool_length);
+        return None;
     }
     if bytes.len() < 1 {
-        return refused_read(read_chain(bytes), j, tool_length);
+        return None;
     }
     let count = byte_at(bytes, 0);
     if !one_or_two(count) {
-        return refused_read(read_chain(bytes), j, tool_length);
+        return None;
     }
     let w = record_length(bytes.len(), count);
     if bytes.len() != 32 + w * count as usize {
-        return refused_read(read_chain(bytes), j, tool_length);
+        return None;
     }
-    forward_counted(ChainBytes { bytes, w, count }, j, tool_length)
+    ChainBytes { bytes, w, count }.reached(j, tool_length)
+}
+
+// `forward` of a chain's bytes. The refusal is looked up only where there is one.
+pub fn forward_from(bytes: &[u8], j: Joints, tool_length: f64) -> Result<ToolPose, Refusal>
+    ensures { result ≡ S.forward_read (read_chain bytes.now) j tool_length }
+{
+    match reached_from(bytes, j, tool_length) {
+        Some(reached) => posed(reached),
+        None => refused_read(read_chain(bytes), j, tool_length),
+    }
 }
 
 // How the position turns a rotary, from the turn by which forward moves it.
-fn swing_from(mount: Mount, back: Turn) -> Turn
-    ensures { result ≡ S.swing_from mount back }
+fn swing_from(carrier: Carrier, back: Turn) -> Turn
+    ensures { result ≡ S.swing_from carrier back }
 {
-    match mount {
-        Mount::Table => back.turned_back(),
-        Mount::Head => Turn {
-            sine: 0.0,
-            cosine: 1.0,
-        },
-        Mount::Absent => Turn {
-            sine: 0.0,
-            cosine: 1.0,
-        },
+    match carrier {
+        Carrier::Table => back.turned_back(),
+        Carrier::Head => Turn::still(),
     }
 }
 
 // The tables forth, from `turns_of` at the same angles, with no sine or cosine made anew.
+#[tactic(auto, unfolding(crate::specs::Forward::forth_from))]
 pub fn forth_from(p: Prepared, back: Turns) -> Turns
     ensures { result ≡ S.forth_from p back }
 {
-    let outer = p.first;
-    let inner = p.second;
-    let outer_mount = outer.mount;
-    let inner_mount = inner.mount;
-    let first = swing_from(outer_mount, back.first);
-    let second = swing_from(inner_mount, back.second);
+    let first = swing_from(p.first.carrier, back.first);
+    let second = p
+        .second
+        .map_or(Turn::still(), |s| swing_from(s.carrier, back.second));
     Turns { first, second }
 }

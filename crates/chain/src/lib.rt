@@ -5,6 +5,7 @@
 
 ghost use Rattle.std.specs.Prelude.{◌+◌, ◌*◌, ◌≤◌, length};
 
+mod angles;
 mod bytes_at;
 mod chain_bytes;
 mod checks;
@@ -20,15 +21,16 @@ pub use checks::{
 };
 pub use forward_map::{
     forth_from, forward, forward_core, forward_from, head_point, head_vector, length_good,
-    position, table_point, table_vector, turns_of,
+    position, table_point, table_vector, turns_by, turns_of,
 };
 use geometry::{Turn, Vec3};
 pub use prepare_chain::prepare;
 use refusal::Refusal;
 
 // Which slide carries a rotary: a table turns the work, a head the tool.
-#[derive(Clone, Copy)]
+#[derive(Clone, Copy, Default)]
 pub enum Carrier {
+    #[default]
     Table,
     Head,
 }
@@ -42,8 +44,8 @@ pub struct RotaryLimits {
 
 // A pivot is a point on the axis: of a table in machine coordinates at zero angles, of a head relative to the gauge
 // point at zero head angles. The rest is the angle at which the cable hangs free: cable turns are counted from it, and
-// nothing else reads it.
-#[derive(Clone, Copy)]
+// nothing else reads it. The letter is the byte of the format: any byte may stand there for `chain_check` to refuse.
+#[derive(Clone, Copy, Default)]
 pub struct RotaryJoint {
     pub letter: u8,
     pub carrier: Carrier,
@@ -55,7 +57,7 @@ pub struct RotaryJoint {
 
 // Outer joints first within each carrier. `second` is read only where `count` is 2. It is no Option: `chain_check` and
 // all that goes by it take any count, and refuse what is neither one nor two.
-#[derive(Clone, Copy)]
+#[derive(Clone, Copy, Default)]
 pub struct Kinematics {
     pub count: u8,
     pub first: RotaryJoint,
@@ -63,7 +65,8 @@ pub struct Kinematics {
     pub spindle_axis: Vec3,
 }
 
-// The bytes of a chain of one or two rotaries, all of them there; a rotary's record has w bytes.
+// The bytes of a chain of one or two rotaries, all of them there; a rotary's record has w bytes. A number, where job
+// has an enum: `rotary_at`, to which it is handed on, is public and takes any w from 72 on, and the definitions any.
 #[derive(Clone, Copy)]
 struct ChainBytes<'a> {
     bytes: &'a [u8],
@@ -87,18 +90,10 @@ pub struct ToolPose {
     pub axis: Vec3,
 }
 
-// How a prepared rotary moves: the second rotary of a chain of one is absent.
-#[derive(Clone, Copy)]
-pub enum Mount {
-    Table,
-    Head,
-    Absent,
-}
-
 // A rotary with its unit axis.
 #[derive(Clone, Copy)]
 pub struct Spin {
-    pub mount: Mount,
+    pub carrier: Carrier,
     pub axis: Vec3,
     pub pivot: Vec3,
 }
@@ -107,12 +102,13 @@ pub struct Spin {
 #[derive(Clone, Copy)]
 pub struct Prepared {
     pub first: Spin,
-    pub second: Spin,
+    pub second: Option<Spin>,
     pub spindle: Vec3,
 }
 
 // For each rotary its turn: by which `forward` moves it, a head forth, a table back (turns_of); or a table forth, as
-// the position needs it (forth_from).
+// the position needs it (forth_from). Where there is no second rotary its turn stands still: an Option would be taken
+// apart beside that of `Prepared`, which says already whether there is one.
 #[derive(Clone, Copy)]
 pub struct Turns {
     pub first: Turn,

@@ -2,17 +2,8 @@
 ghost use Rattle.std.specs.Prelude.{◌≡◌};
 ghost use Rattle.chain.specs.Prepared as S;
 
-use crate::{Carrier, Kinematics, Mount, Prepared, RotaryJoint, Spin};
+use crate::{Kinematics, Prepared, RotaryJoint, Spin};
 use geometry::unit_or;
-
-pub fn mount_of(carrier: Carrier) -> Mount
-    ensures { result ≡ S.mount_of carrier }
-{
-    match carrier {
-        Carrier::Table => Mount::Table,
-        Carrier::Head => Mount::Head,
-    }
-}
 
 // An axis without a direction, which a checked chain has not, stays as it is.
 #[tactic(auto, unfolding(crate::specs::Prepared::unit_axis, crate::specs::Prepared::spin_of))]
@@ -20,25 +11,17 @@ fn spin_of(j: RotaryJoint) -> Spin
     ensures { result ≡ S.spin_of j }
 {
     Spin {
-        mount: mount_of(j.carrier),
+        carrier: j.carrier,
         axis: unit_or(j.axis, j.axis),
         pivot: j.pivot,
     }
 }
 
 #[tactic(auto, unfolding(crate::specs::Prepared::second_spin))]
-fn second_spin(k: Kinematics) -> Spin
+fn second_spin(k: Kinematics) -> Option<Spin>
     ensures { result ≡ S.second_spin k }
 {
-    let second = k.second;
-    if k.count == 2 {
-        return spin_of(second);
-    }
-    Spin {
-        mount: Mount::Absent,
-        axis: second.axis,
-        pivot: second.pivot,
-    }
+    k.second_rotary().map(spin_of)
 }
 
 #[tactic(auto, unfolding(crate::specs::Prepared::unit_axis, crate::specs::Prepared::prepared))]

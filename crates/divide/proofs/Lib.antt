@@ -1,5 +1,5 @@
 pub mod Lengths
-pub mod Checks
+pub mod Chunks
 pub mod Idle
 pub mod Accepted
 pub mod PriceGap

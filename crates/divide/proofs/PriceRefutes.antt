@@ -32,7 +32,7 @@ use Rattle.turn.specs.declared.Stop.{Stop}
 use Rattle.turn.specs.Items.{items_in}
 use Rattle.divide.specs.declared.DivisionError.{DivisionError}
 use Rattle.divide.specs.Checking.{division_check}
-use Rattle.divide.specs.Subdividing.{solved_path, Division, ended}
+use Rattle.divide.specs.Subdividing.{solved_path, Division}
 use Rattle.divide.specs.Price.{AllClose, Insertions, Result, AllZero, Checks, Price, IfSolved, SolvedAndDivided}
 use Rattle.divide.proofs.Idle.{less_or_not}
 use Rattle.divide.proofs.PricePath.{divided_one}

@@ -2,7 +2,7 @@
 -- midpoint lies between its ends, so limits and sizes stay. `Limited` is of solved joints, and of their angles alone;
 -- `Sized` is of any joints that pass division's checks, and of all five numbers.
 use mathlib.Core.Path.{◌≡◌, refl}
-use mathlib.Core.Bool.{Bool, true, false, ◌&&◌, cond}
+use mathlib.Core.Bool.{true, ◌&&◌}
 use lib.Dec.{T}
 use lib.Ieee as Ieee
 use lib.Ieee.{Float, binary64, le, fits, of_bits}
@@ -18,9 +18,10 @@ use Rattle.chain.specs.declared.Joints.{Joints}
 use Rattle.chain.specs.declared.Kinematics.{Kinematics}
 use Rattle.chain.specs.Check.{contains, within, all_within, farthest, most_turned, joints_finite, joints_within}
 use Rattle.chain.proofs.ReadyLaws.{both, within_finite, all_within_finite, over_farthest, over_turned}
-use Rattle.path.specs.Unwinding.{permits, first_inside, second_inside, inside}
+use Rattle.path.specs.Unwinding.{permits, first_inside, second_permits, second_inside, inside}
 use Rattle.path.specs.Posing.{bounds_of, turned_within}
 use Rattle.path.specs.Promise.{Served}
+use Rattle.path.specs.declared.Bound.{Bound}
 use Rattle.path.specs.declared.Bounds.{Bounds}
 use Rattle.middle.specs.Testing.{half, lerp_joints}
 
@@ -69,10 +70,10 @@ mid_all_within c h u v ux uy uz vx vy vz g k =
     )
 
 -- ---- the limits: the second angle of a chain of one is not looked at
-second_mid : (two : Bool) (t : Option RotaryLimits) (a b c : Float) → (permits t a ≡ true → permits t b ≡ true → permits t c ≡ true)
-    → cond two (permits t a) true ≡ true → cond two (permits t b) true ≡ true → cond two (permits t c) true ≡ true
-second_mid true t a b c f g h = f g h
-second_mid false t a b c f g h = refl
+second_mid : (o : Option Bound) (a b c : Float) → ((t : Option RotaryLimits) → permits t a ≡ true → permits t b ≡ true → permits t c ≡ true)
+    → second_permits o a ≡ true → second_permits o b ≡ true → second_permits o c ≡ true
+second_mid (Some second) a b c f g h = f second.limits g h
+second_mid None a b c f g h = refl
 
 inside_parts : (c : Bounds) (j : Joints) → inside c j ≡ true → (first_inside c j ≡ true) × (second_inside c j ≡ true)
 unfolding inside
@@ -95,13 +96,13 @@ served_limited k j s f g = record { limits = s.limits; turns = s.turns; fits_a0 
 module _ (k : Kinematics) (a b : Joints) (A : Limited k a) (B : Limited k b) where
   first_mid : (c : Bounds) → first_inside c a ≡ true → first_inside c b ≡ true → first_inside c (lerp_joints a b) ≡ true
   unfolding first_inside lerp_joints
-  first_mid c g h = mid_permitted a.a0 b.a0 A.fits_a0 B.fits_a0 c.outer (turned_parts a A.turns).0 (turned_parts b B.turns).0 g h
+  first_mid c g h = mid_permitted a.a0 b.a0 A.fits_a0 B.fits_a0 c.first.limits (turned_parts a A.turns).0 (turned_parts b B.turns).0 g h
 
   second_inside_between : (c : Bounds) → second_inside c a ≡ true → second_inside c b ≡ true → second_inside c (lerp_joints a b) ≡ true
   unfolding second_inside lerp_joints
   second_inside_between c g h =
-      second_mid c.two c.inner a.a1 b.a1 (lerp a.a1 b.a1 half)
-      (mid_permitted a.a1 b.a1 A.fits_a1 B.fits_a1 c.inner (turned_parts a A.turns).1 (turned_parts b B.turns).1) g h
+      second_mid c.second a.a1 b.a1 (lerp a.a1 b.a1 half)
+      (λ t. mid_permitted a.a1 b.a1 A.fits_a1 B.fits_a1 t (turned_parts a A.turns).1 (turned_parts b B.turns).1) g h
 
   inside_mid : (c : Bounds) → inside c a ≡ true → inside c b ≡ true → inside c (lerp_joints a b) ≡ true
   unfolding inside

@@ -1,14 +1,12 @@
 -- The two calls that divide: what the checks and the division leave is what the definition says, and demand 3 and R-12
 -- hold of it.
 use Prim.Native.Nat.{ℕ, ◌*◌, ◌/◌, ◌≤◌, ◌<◌}
-use native.Mathlib.Omega.{arith}
 use mathlib.Core.Path.{◌≡◌, refl, sym, ap, ◌∙◌, subst}
 use mathlib.Core.Logic.{◌⊎◌, inl, inr}
 use mathlib.Core.List.{List, Memᴰ}
-use lib.Dec.{T}
-use lib.Ieee.{Float, binary64, fits, nan}
+use lib.Ieee.{Float}
 use lib.ListN.{replicate, length, take, drop, take-append-drop}
-use lib.Seq.{length-take-le, get_or-take, take_all}
+use lib.Seq.{length-take-le}
 use Rattle.std.specs.Prelude.{Err, Ok, Option}
 use Rattle.float.specs.Helpers.{nought}
 use Rattle.lists.specs.Rows.{rows, paired, flat}
@@ -41,11 +39,6 @@ use Rattle.divide.proofs.PriceLent.{begun_price, none_price, refused_price, chec
 use Rattle.divide.proofs.Later.{refused_later, ended_later}
 
 -- ---- every joint set that was solved is within its limits, and within the sizes that were checked
-taken_fit : (n : ℕ) (l : List Float) → n ≤ length l → FitUpTo n l → FitUpTo (length (take n l)) (take n l)
-taken_fit n l h f =
-    let e = length-take-le n l h in
-    record { fit = λ i p. let q : i < n = rw e at p in subst (λ (x : Float). T (fits binary64 x)) (sym (get_or-take n l i nan q)) (f.fit i q) }
-
 module _ (k : Kinematics) (tol : Tolerances) (lent solved : List Float) (roomPoses roomJoints : ℕ)
     (passed : division_check k tol lent solved roomPoses roomJoints ≡ Ok tt) (fit : FitUpTo (length solved) solved) (start : Option Joints) (cone : Float) (room : ℕ)
     (l : List Joints) (along : solve_path k lent start cone room ≡ Along l) (is : solved ≡ flat joint_numbers l) where
@@ -82,10 +75,6 @@ module _ (k : Kinematics) (tol : Tolerances) (lent solved : List Float) (roomPos
           begun_price (division (prepared k) tol space (given lent solved)) p₀ j₀ (answered space h) (rw w at e) (rw w at u) (rw w at v) h
 
 -- ---- subdivide_path
-pub all_taken : (k : Kinematics) (tol : Tolerances) (lent solved : List Float) (roomPoses roomJoints : ℕ)
-    → division_check k tol lent (take (length solved) solved) roomPoses roomJoints ≡ division_check k tol lent solved roomPoses roomJoints
-all_taken k tol lent solved roomPoses roomJoints = ap (λ (l : List Float). division_check k tol lent l roomPoses roomJoints) (take_all (length solved) solved (omega arith))
-
 module _ (k : Kinematics) (tol : Tolerances) (lent solved p₀ j₀ : List Float) where
   pub subdivide_refused : {said : Division} {r : Refusal} → division_check k tol lent solved (length p₀) (length j₀) ≡ Err r → said ≡ Err (DivisionError.Refused r)
       → (said ≡ division_in (subdivide_path k tol lent solved (length p₀) (length j₀)))
@@ -151,7 +140,7 @@ module _ (k : Kinematics) (tol : Tolerances) (lent p₀ j₀ : List Float) where
       ∙ joints_front (length lent / 6) lent found (drop (length lent / 6 * 5) j₀) (length-take-le (length lent / 6 * 5) j₀ h)
 
   pub found_ended : {said : Division} {how : Divided} {poses joints : List Float} → length lent / 6 * 5 ≤ length j₀ → division_check k tol lent found (length p₀) (length j₀) ≡ Ok tt
-      → FitUpTo (length lent / 6 * 5) j₀ → FitVec k.spindle_axis
+      → FitUpTo (length found) found → FitVec k.spindle_axis
       → how ≡ divided_in (division_within (prepared k) tol (space_in (length p₀) (length j₀)) (given lent j₀))
       → poses ≡ poses_over (division_within (prepared k) tol (space_in (length p₀) (length j₀)) (given lent j₀)) p₀
       → joints ≡ joints_over (division_within (prepared k) tol (space_in (length p₀) (length j₀)) (given lent j₀)) j₀
@@ -175,9 +164,9 @@ module _ (k : Kinematics) (tol : Tolerances) (lent p₀ j₀ : List Float) where
               record {
                 begun = λ w. subst Checks (sym q) (checks_ended how);
                 price = λ start cone room l a i.
-                    ended_price k tol lent found (length p₀) (length j₀) e (taken_fit (length lent / 6 * 5) j₀ h f) start cone room l a i (space_in (length p₀) (length j₀)) p₀ j₀ (q ∙ ap ended s') u' v';
+                    ended_price k tol lent found (length p₀) (length j₀) e f start cone room l a i (space_in (length p₀) (length j₀)) p₀ j₀ (q ∙ ap ended s') u' v';
               },
-              ended_later k tol lent found p₀ j₀ (taken_fit (length lent / 6 * 5) j₀ h f) spindle e u' v' (q ∙ ap ended s'),
+              ended_later k tol lent found p₀ j₀ f spindle e u' v' (q ∙ ap ended s'),
             ),
           ),
         ),

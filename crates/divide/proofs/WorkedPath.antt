@@ -23,7 +23,7 @@ use Rattle.geometry.specs.Slerp.{slerp_cosine, slerp_axis, angle_between_deg}
 use Rattle.chain.specs.declared.Carrier.TheVariants.{Table}
 use Rattle.chain.specs.declared.Joints.{Joints}
 use Rattle.chain.specs.declared.Kinematics.{Kinematics}
-use Rattle.chain.specs.Check.{travel_good, has_direction, known_letter, other_letter, rotary_check, one_or_two, second_check, chain_check, within, all_within, rotary_within, chain_within, joints_within}
+use Rattle.chain.specs.Check.{travel_good, has_direction, known_letter, rotary_check, one_or_two, second_check, chain_check, within, all_within, rotary_within, chain_within, joints_within}
 use Rattle.chain.specs.ChainBytes.{no_rotary}
 use Rattle.chain.specs.Forward.{turns_of, tables_forth, head_point, head_vector, table_point, table_vector, reach_axis, reach, forward_core, position}
 use Rattle.chain.specs.Prepared.{unit_axis, spin_of, second_spin, prepared}
@@ -75,7 +75,7 @@ at x = record { xyz = vector x x x; a0 = nought; a1 = nought }
 
 -- ---- it is solved, from angles zero with a cone of 1 degree: the table stays where it is
 pub solved : solve_path chain poses None one 10 ≡ Along (at nought ∷ at apart ∷ [])
-unfolding solve_path solve_checked solve_check whole_records cone_good path_chain parallel path_sizes poses_in rows solve_poses pose_answer solved_pose solved_tip solve_one set_up bounds_of turned_within singular_frame chain_check second_check rotary_check one_or_two known_letter other_letter travel_good has_direction within all_within rotary_within chain_within no_rotary prepared second_spin spin_of unit_axis unit_or unit_direction all_finite tiny with_length exact_pose of_raw of_positions second_candidate reached_by alone unwound within_limits inside first_inside second_inside unwind_angles unwind_angle by_turns round_half_away orientation_angles one_joint_angles sp1 between_parts turned_by square_part misses pose_at joints_at position forward_core reach reach_axis table_point table_vector head_point head_vector turns_of tables_forth turn_of rotate_vector rotate_point degree_pair turnable sine_degrees cosine_degrees norm dot cross scale add sub root size_of Ieee.add Ieee.sub Ieee.mul Ieee.div Ieee.neg Ieee.lt Ieee.le Ieee.eq Ieee.sum Ieee.round of_bits
+unfolding solve_path solve_checked solve_check whole_records cone_good path_chain parallel path_sizes poses_in rows solve_poses pose_answer solved_pose solved_tip solve_one set_up bounds_of turned_within singular_frame chain_check second_check rotary_check one_or_two known_letter travel_good has_direction within all_within rotary_within chain_within no_rotary prepared second_spin spin_of unit_axis unit_or unit_direction all_finite tiny with_length exact_pose of_raw of_positions second_candidate reached_by alone unwound within_limits inside first_inside second_inside unwind_angles unwind_angle by_turns round_half_away orientation_angles one_joint_angles sp1 between_parts turned_by square_part misses pose_at joints_at position forward_core reach reach_axis table_point table_vector head_point head_vector turns_of tables_forth turn_of rotate_vector rotate_point degree_pair turnable sine_degrees cosine_degrees norm dot cross scale add sub root size_of Ieee.add Ieee.sub Ieee.mul Ieee.div Ieee.neg Ieee.lt Ieee.le Ieee.eq Ieee.sum Ieee.round of_bits
 solved = refl
 
 -- ---- and divided, with a chord tolerance of 1e-13 mm, an axis tolerance of 1 degree and just the space: the midpoint
@@ -94,5 +94,5 @@ abbrev result : List Item
 result = posed zero (at nought) ∷ posed zero (at middle) ∷ posed (vector apart apart apart) (at apart) ∷ []
 
 pub divided : subdivide_path chain tolerances poses (flat joint_numbers (at nought ∷ at apart ∷ [])) 18 15 ≡ Halved (Done 1 result)
-unfolding subdivide_path division_check checks_in_order four_whole whole_records tolerance_good Checking.all_finite division_sizes tip_within joint_sets_in joints_within all flat path_chain parallel chain_check second_check rotary_check one_or_two known_letter other_letter travel_good has_direction within all_within rotary_within chain_within no_rotary poses_in rows items_in paired space_in division_within division halve Halving.step divides segment_within middle_within near_an_end joints_unchanged as_near tip_gap axis_gap midpoint lerp_joints lerp_vec pose_of gap_vec slerp_axis slerp_cosine angle_between_deg clamp_unit arccosine_of sine_of_cosine arctangent_of angle_float level_float sine_of sine_float served prepared second_spin spin_of unit_axis unit_or unit_direction all_finite tiny with_length forward_core reach reach_axis table_point table_vector head_point head_vector turns_of turn_of rotate_vector rotate_point degree_pair turnable sine_degrees cosine_degrees norm dot cross scale add sub root size_of to_degrees Ieee.add Ieee.sub Ieee.mul Ieee.div Ieee.neg Ieee.lt Ieee.le Ieee.eq Ieee.sum Ieee.round of_bits
+unfolding subdivide_path division_check checks_in_order four_whole whole_records tolerance_good Checking.all_finite division_sizes tip_within joint_sets_in joints_within all flat path_chain parallel chain_check second_check rotary_check one_or_two known_letter travel_good has_direction within all_within rotary_within chain_within no_rotary poses_in rows items_in paired space_in division_within division halve Halving.step divides segment_within middle_within near_an_end joints_unchanged as_near tip_gap axis_gap midpoint lerp_joints lerp_vec pose_of gap_vec slerp_axis slerp_cosine angle_between_deg clamp_unit arccosine_of sine_of_cosine arctangent_of angle_float level_float sine_of sine_float served prepared second_spin spin_of unit_axis unit_or unit_direction all_finite tiny with_length forward_core reach reach_axis table_point table_vector head_point head_vector turns_of turn_of rotate_vector rotate_point degree_pair turnable sine_degrees cosine_degrees norm dot cross scale add sub root size_of to_degrees Ieee.add Ieee.sub Ieee.mul Ieee.div Ieee.neg Ieee.lt Ieee.le Ieee.eq Ieee.sum Ieee.round of_bits
 divided = refl

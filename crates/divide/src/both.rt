@@ -1,5 +1,5 @@
 // The call of both: the joints of every pose, then the division of the poses with them. The joints are solved into the
-// front of their output, and divided there.
+// front of their output, and divided there: C lends no other place for them.
 ghost use Rattle.std.specs.Prelude.{ℕ, ◌*◌, ◌/◌, ◌≤◌, ◌≡◌, length, take};
 ghost use Rattle.divide.specs.Subdividing as S;
 ghost use Rattle.divide.specs.Looser.{Later};
@@ -13,7 +13,8 @@ use middle::Tolerances;
 use refusal::{Cause, Refusal};
 use turn::space_in;
 
-// Of three lengths, as `four_whole` is of four: each has its definition.
+// Of three lengths: by `four_whole` the call would name the room for joint sets twice.
+#[tactic(auto, unfolding(crate::specs::Subdividing::three_whole))]
 pub fn three_whole(poses: usize, room_poses: usize, room_joints: usize) -> bool
     ensures { result ≡ S.three_whole poses room_poses room_joints }
 {
@@ -41,7 +42,7 @@ fn both_check(
     path::solve_check(k, start, cone, numbers, room)
 }
 
-// The division of what is solved; here its refusals leave +0.0 in both outputs.
+// The division of what is solved; here its refusals leave +0.0 in both outputs, so they are no `?`.
 fn divide_found(
     k: Kinematics,
     tol: Tolerances,
@@ -57,17 +58,16 @@ fn divide_found(
     ensures later { Later k tol given.now (take (length given.now / 6 * 5) joints.old) (length poses.old) (length joints.old) result poses.new joints.new }
 {
     let numbers = given.len() / 6 * 5;
-    if let Err(r) = division_check(k, tol, given, joints, numbers, poses.len(), joints.len()) {
+    let room = joints.len();
+    if let Err(r) = division_check(k, tol, given, &joints[..numbers], poses.len(), room) {
         poses.fill(0.0);
         joints.fill(0.0);
         return Err(DivisionError::Refused(r));
     }
-    let space = space_in(poses.len(), joints.len());
-    let inserted = halve_solved(k, tol, space, given, poses, joints)?;
-    Ok(inserted)
+    Ok(halve_solved(k, tol, given, poses, joints)?)
 }
 
-// A path solved and divided.
+// A path solved and divided. A refusal at a pose leaves +0.0 too, and is no `From<Refusal>`, which says `Refused`.
 pub fn solve_and_divide(
     k: Kinematics,
     given: &[f64],

@@ -1,5 +1,5 @@
 // The checks of a division before its first test.
-ghost use Rattle.std.specs.Prelude.{◌≤◌, ◌≡◌, true, length, take};
+ghost use Rattle.std.specs.Prelude.{◌≡◌, true, length};
 ghost use Rattle.std.specs.Float.Ieee.Scale.{finite};
 ghost use Rattle.lists.specs.Search.{all};
 ghost use Rattle.chain.specs.Check.{joints_within};
@@ -11,113 +11,81 @@ use middle::Tolerances;
 use refusal::{Cause, Refusal};
 use turn::every_set;
 
+#[tactic(auto, unfolding(crate::specs::Checking::tolerance_good))]
 pub fn tolerance_good(t: f64) -> bool
     ensures { result ≡ S.tolerance_good t }
 {
     float::finite(t) && 0.0 < t
 }
 
-// The first `count` numbers. A number that was handed over is a float of 64 bits, whatever it was read from.
-pub fn numbers_finite(numbers: &[f64], count: usize) -> bool
-    requires { count ≤ length numbers.now }
-    ensures finite { result ≡ all finite (take count numbers.now) }
-    ensures fit { result ≡ true → S.FitUpTo count numbers.now }
+// A number that was handed over is a float of 64 bits, whatever it was read from.
+pub fn numbers_finite(numbers: &[f64]) -> bool
+    ensures finite { result ≡ all finite numbers.now }
+    ensures fit { result ≡ true → S.FitUpTo (length numbers.now) numbers.now }
 {
-    for x in &numbers[..count] {
-        if !float::finite(*x) {
-            return false;
-        }
-    }
-    true
+    numbers.iter().all(|x| float::finite(*x))
 }
 
-// By a loop of its own: it is the only test over poses.
+// Of the whole poses, six numbers each.
 pub fn tips_within(poses: &[f64]) -> bool
     ensures { result ≡ all S.tip_within (poses_in poses.now) }
 {
-    for i in 0..poses.len() / 6 {
-        let pose = path::pose_in(poses, i * 6);
-        if !chain::all_within(pose.tip, 100000.0) {
-            return false;
-        }
-    }
-    true
+    let (whole, _) = poses.as_chunks::<6>();
+    whole.iter().all(|pose| chain::all_within(path::pose_in(pose, 0).tip, 100000.0))
 }
 
-// `numbers` is how many numbers the joint sets have, of those that are lent.
-fn all_finite(poses: &[f64], joints: &[f64], numbers: usize) -> bool
-    requires { numbers ≤ length joints.now }
-    ensures finite { result ≡ S.all_finite poses.now (take numbers joints.now) }
-    ensures fit { result ≡ true → S.FitUpTo numbers joints.now }
+#[tactic(auto, unfolding(crate::specs::Checking::all_finite))]
+fn all_finite(poses: &[f64], joints: &[f64]) -> bool
+    ensures finite { result ≡ S.all_finite poses.now joints.now }
+    ensures fit { result ≡ true → S.FitUpTo (length joints.now) joints.now }
 {
-    numbers_finite(poses, poses.len()) && numbers_finite(joints, numbers)
+    numbers_finite(poses) && numbers_finite(joints)
 }
 
-// `numbers` as above.
-fn sets_within(joints: &[f64], numbers: usize) -> bool
-    requires { numbers ≤ length joints.now }
-    ensures { result ≡ all joints_within (S.joint_sets_in (take numbers joints.now)) }
+#[tactic(auto, unfolding(crate::specs::Checking::joint_sets_in))]
+fn sets_within(joints: &[f64]) -> bool
+    ensures { result ≡ all joints_within (S.joint_sets_in joints.now) }
 {
-    every_set(joints, numbers / 5, |j| chain::joints_within(j))
+    every_set(joints, |j| chain::joints_within(j))
 }
 
 #[tactic(auto, unfolding(crate::specs::Checking::division_sizes))]
-fn division_sizes(k: Kinematics, poses: &[f64], joints: &[f64], numbers: usize) -> bool
-    requires { numbers ≤ length joints.now }
-    ensures { result ≡ S.division_sizes k poses.now (take numbers joints.now) }
+fn division_sizes(k: Kinematics, poses: &[f64], joints: &[f64]) -> bool
+    ensures { result ≡ S.division_sizes k poses.now joints.now }
 {
-    chain::chain_within(k)
-        && tips_within(poses)
-        && sets_within(joints, numbers)
-        && poses.len() / 6 <= 100000
+    chain::chain_within(k) && tips_within(poses) && sets_within(joints) && poses.len() / 6 <= 100000
 }
 
+// The rooms are numbers here and below: a struct of the two would be made of two slices at each call, and taken apart
+// in the one line that compares them.
+#[tactic(auto, unfolding(crate::specs::Checking::four_whole))]
 pub fn four_whole(poses: usize, joints: usize, room_poses: usize, room_joints: usize) -> bool
     ensures { result ≡ S.four_whole poses joints room_poses room_joints }
 {
     path::whole_records(poses, joints) && path::whole_records(room_poses, room_joints)
 }
 
-#[tactic(auto, unfolding(crate::specs::Checking::checks_in_order))]
-fn checks_in_order(
-    k: Kinematics,
-    whole: bool,
-    chord: bool,
-    axis: bool,
-    as_many: bool,
-    finite: bool,
-    sizes: bool,
-) -> Result<(), Refusal>
-    ensures { result ≡ S.checks_in_order k whole chord axis as_many finite sizes }
-{
-    demand(whole, Cause::LengthsDiffer, 0)?;
-    demand(chord, Cause::Tolerance, 0)?;
-    demand(axis, Cause::Tolerance, 0)?;
-    demand(as_many, Cause::LengthsDiffer, 0)?;
-    path::path_chain(k)?;
-    demand(finite, Cause::NotFinite, 0)?;
-    demand(sizes, Cause::TooLarge, 0)
-}
-
-// Of the poses and the first `numbers` joint numbers.
+// Chain and tolerances are apart in this crate and those above: `turn::Setting` has the chain made ready, which comes
+// behind the checks; a second struct of the two as given would be taken apart by every check, since each asks of one.
+#[tactic(auto, unfolding(crate::specs::Checking::division_check, crate::specs::Checking::checks_in_order))]
 pub fn division_check(
     k: Kinematics,
     tol: Tolerances,
     poses: &[f64],
     joints: &[f64],
-    numbers: usize,
     room_poses: usize,
     room_joints: usize,
 ) -> Result<(), Refusal>
-    requires { numbers ≤ length joints.now }
-    ensures checked { result ≡ S.division_check k tol poses.now (take numbers joints.now) room_poses room_joints }
-    ensures fit { result ≡ Ok tt → S.FitUpTo numbers joints.now }
+    ensures checked { result ≡ S.division_check k tol poses.now joints.now room_poses room_joints }
+    ensures fit { result ≡ Ok tt → S.FitUpTo (length joints.now) joints.now }
 {
-    let whole = four_whole(poses.len(), numbers, room_poses, room_joints);
-    let chord = tolerance_good(tol.chord);
-    let axis = tolerance_good(tol.axis);
-    let finite = all_finite(poses, joints, numbers);
-    let sizes = division_sizes(k, poses, joints, numbers);
-    let as_many = poses.len() / 6 == numbers / 5;
-    checks_in_order(k, whole, chord, axis, as_many, finite, sizes)
+    let whole = four_whole(poses.len(), joints.len(), room_poses, room_joints);
+    demand(whole, Cause::LengthsDiffer, 0)?;
+    demand(tolerance_good(tol.chord), Cause::Tolerance, 0)?;
+    demand(tolerance_good(tol.axis), Cause::Tolerance, 0)?;
+    let as_many = poses.len() / 6 == joints.len() / 5;
+    demand(as_many, Cause::LengthsDiffer, 0)?;
+    path::path_chain(k)?;
+    demand(all_finite(poses, joints), Cause::NotFinite, 0)?;
+    demand(division_sizes(k, poses, joints), Cause::TooLarge, 0)
 }

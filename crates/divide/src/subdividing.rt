@@ -1,9 +1,9 @@
 // subdivide_path: the checks, then the division of given poses with their joint sets in two lent outputs. A refusal
 // before the first test keeps both; 27 and 28 leave +0.0 in both.
-ghost use Rattle.std.specs.Prelude.{ℕ, ◌*◌, ◌/◌, ◌≤◌, ◌≡◌, length};
+ghost use Rattle.std.specs.Prelude.{ℕ, ◌*◌, ◌/◌, ◌≡◌, length};
 ghost use Rattle.chain.specs.Prepared.{prepared};
-ghost use Rattle.turn.specs.Items.{items_in};
-ghost use Rattle.machine.specs.Dividing.{divided_in, poses_over, joints_over};
+ghost use Rattle.turn.specs.Items.{items_in, space_in};
+ghost use Rattle.machine.specs.Dividing.{Over, divided_in, poses_over, joints_over};
 ghost use Rattle.divide.specs.Subdividing as S;
 ghost use Rattle.divide.specs.Looser.{Later};
 ghost use Rattle.divide.specs.Price.{IfSolved};
@@ -13,15 +13,17 @@ use crate::checking::division_check;
 use chain::Kinematics;
 use machine::{divide_given, divide_solved};
 use middle::Tolerances;
-use turn::{GivenPath, Stop, space_in};
+use turn::{GivenPath, Outputs, Setting, Stop, space_in};
 
 // Nothing is to be halved: there is no pose, or no space for those that are given.
+#[tactic(auto, unfolding(crate::specs::Subdividing::idle))]
 fn idle(space: usize, count: usize) -> bool
     ensures { result ≡ S.idle space count }
 {
     count == 0 || space < count
 }
 
+#[tactic(auto, unfolding(crate::specs::Subdividing::idle_answer))]
 fn idle_answer(space: usize, count: usize) -> Result<u64, Stop>
     ensures { result ≡ divided_in (S.idle_answer space count) }
 {
@@ -31,57 +33,67 @@ fn idle_answer(space: usize, count: usize) -> Result<u64, Stop>
     Err(Stop::NoSpace(0))
 }
 
-fn cleared(space: usize, count: usize, poses: &mut [f64], joints: &mut [f64]) -> Result<u64, Stop>
-    ensures answer { result ≡ divided_in (S.idle_answer space count) }
-    ensures poses { poses.new ≡ poses_over (S.idle_answer space count) poses.old }
-    ensures joints { joints.new ≡ joints_over (S.idle_answer space count) joints.old }
+// Both outputs, where nothing is to be halved.
+fn cleared(count: usize, out: &mut Outputs) -> Result<u64, Stop>
+    ensures answer { result ≡ divided_in (S.idle_answer out.old.space count) }
+    ensures lent { Over (S.idle_answer out.old.space count) out.old out.new }
 {
-    poses.fill(0.0);
-    joints.fill(0.0);
-    idle_answer(space, count)
+    out.poses.fill(0.0);
+    out.joints.fill(0.0);
+    idle_answer(out.space, count)
 }
 
-// The given poses and joint sets are lent elsewhere.
+// The given poses and joint sets are lent elsewhere. Its first lines are those of `halve_solved`: one function of both
+// would take the last call as a closure, and its clauses, with what they ask of that, are longer than those lines.
 fn halve_given(
     k: Kinematics,
     tol: Tolerances,
-    space: usize,
     given: &GivenPath,
     poses: &mut [f64],
     joints: &mut [f64],
 ) -> Result<u64, Stop>
-    requires { (space * 6 ≤ length poses.old) × (space * 5 ≤ length joints.old) }
-    ensures answer { result ≡ divided_in (S.division_within (prepared k) tol space (items_in given.now.count given.now.poses.now given.now.joints.now)) }
-    ensures poses { poses.new ≡ poses_over (S.division_within (prepared k) tol space (items_in given.now.count given.now.poses.now given.now.joints.now)) poses.old }
-    ensures joints { joints.new ≡ joints_over (S.division_within (prepared k) tol space (items_in given.now.count given.now.poses.now given.now.joints.now)) joints.old }
+    ensures answer { result ≡ divided_in (S.division_within (prepared k) tol (space_in (length poses.old) (length joints.old)) (items_in given.now.count given.now.poses.now given.now.joints.now)) }
+    ensures poses { poses.new ≡ poses_over (S.division_within (prepared k) tol (space_in (length poses.old) (length joints.old)) (items_in given.now.count given.now.poses.now given.now.joints.now)) poses.old }
+    ensures joints { joints.new ≡ joints_over (S.division_within (prepared k) tol (space_in (length poses.old) (length joints.old)) (items_in given.now.count given.now.poses.now given.now.joints.now)) joints.old }
 {
+    let space = space_in(poses.len(), joints.len());
+    let mut out = Outputs {
+        space,
+        poses,
+        joints,
+    };
     if idle(space, given.count) {
-        return cleared(space, given.count, poses, joints);
+        return cleared(given.count, &mut out);
     }
     let p = chain::prepare(k);
-    divide_given(p, tol, space, given, poses, joints)
+    divide_given(&Setting { p, tol }, given, &mut out)
 }
 
 // The joint sets stand at the front of their output.
 pub fn halve_solved(
     k: Kinematics,
     tol: Tolerances,
-    space: usize,
     given: &[f64],
     poses: &mut [f64],
     joints: &mut [f64],
 ) -> Result<u64, Stop>
-    requires { (length given.now ≡ length given.now / 6 * 6) × ((space * 6 ≤ length poses.old) × (space * 5 ≤ length joints.old)) }
-    ensures answer { result ≡ divided_in (S.division_within (prepared k) tol space (S.given given.now joints.old)) }
-    ensures poses { poses.new ≡ poses_over (S.division_within (prepared k) tol space (S.given given.now joints.old)) poses.old }
-    ensures joints { joints.new ≡ joints_over (S.division_within (prepared k) tol space (S.given given.now joints.old)) joints.old }
+    requires { length given.now ≡ length given.now / 6 * 6 }
+    ensures answer { result ≡ divided_in (S.division_within (prepared k) tol (space_in (length poses.old) (length joints.old)) (S.given given.now joints.old)) }
+    ensures poses { poses.new ≡ poses_over (S.division_within (prepared k) tol (space_in (length poses.old) (length joints.old)) (S.given given.now joints.old)) poses.old }
+    ensures joints { joints.new ≡ joints_over (S.division_within (prepared k) tol (space_in (length poses.old) (length joints.old)) (S.given given.now joints.old)) joints.old }
 {
     let count = given.len() / 6;
+    let space = space_in(poses.len(), joints.len());
+    let mut out = Outputs {
+        space,
+        poses,
+        joints,
+    };
     if idle(space, count) {
-        return cleared(space, count, poses, joints);
+        return cleared(count, &mut out);
     }
     let p = chain::prepare(k);
-    divide_solved(p, tol, space, count, given, poses, joints)
+    divide_solved(&Setting { p, tol }, count, given, &mut out)
 }
 
 // The given poses with their joint sets, and poses between them until both tolerances hold.
@@ -99,21 +111,11 @@ pub fn subdivide_path(
     ensures price { IfSolved k tol given.now solved.now (length poses.old) (length joints.old) result poses.new joints.new }
     ensures later { Later k tol given.now solved.now (length poses.old) (length joints.old) result poses.new joints.new }
 {
-    division_check(
-        k,
-        tol,
-        given,
-        solved,
-        solved.len(),
-        poses.len(),
-        joints.len(),
-    )?;
-    let space = space_in(poses.len(), joints.len());
+    division_check(k, tol, given, solved, poses.len(), joints.len())?;
     let path = GivenPath {
         count: given.len() / 6,
         poses: given,
         joints: solved,
     };
-    let inserted = halve_given(k, tol, space, &path, poses, joints)?;
-    Ok(inserted)
+    Ok(halve_given(k, tol, &path, poses, joints)?)
 }

@@ -1,19 +1,23 @@
--- The two loops that build a summary: through the joint sets of a group, and through the groups.
-use Prim.Native.Nat.{ℕ, suc, ◌+◌, ◌-◌, ◌*◌, ◌/◌, ◌≤◌, ◌<◌}
+-- What builds a summary: the fold over the joint sets of a group, and the loop through the groups.
+use Prim.Native.Nat.{ℕ, zero, suc, ◌+◌, ◌-◌, ◌*◌, ◌/◌, ◌≤◌, ◌<◌}
 use native.Mathlib.Numerals.{add-one, towards_suc}
 use native.Mathlib.Omega.{arith}
 use mathlib.Core.Path.{◌≡◌, refl, sym, ap, ◌∙◌}
 use mathlib.Core.List.{List, [], ◌∷◌, ◌++◌, map}
-use lib.ListN.{length, take, drop, get_or, set}
-use lib.Seq.{length-sets, take_all, take-suc, drop-cons}
+use lib.ListN.{length, take, drop, get_or, set, length-drop, take-append-drop}
+use lib.Seq.{length-sets, length-take-le, take_all, take-suc, drop-cons}
 use lib.Ieee.{Float}
+use Rattle.std.specs.List as Std
+use Rattle.std.specs.Simd.{first_chunks}
 use Rattle.lists.specs.Fold.{fold}
 use Rattle.lists.specs.Rows.{rows, flat}
 use Rattle.lists.proofs.Fold.{pushed}
-use Rattle.lists.proofs.Rows.{length_rows, set_rows, flat_rows}
+use Rattle.lists.proofs.Rows.{length_rows, take_rows, drop_rows, rows_append_le, set_rows, flat_rows}
 use Rattle.chain.specs.declared.Joints.{Joints}
 use Rattle.path.specs.Solving.{joints_over}
 use Rattle.turn.specs.Items.{joints_from, joints_in}
+use Rattle.turn.proofs.Chunks as Chunks
+use Rattle.turn.proofs.Stored.{joints_codec}
 use Rattle.extremes.specs.declared.Extremes.{Extremes}
 use Rattle.extremes.specs.Summary.{sets_in, level, widened, extremes_of, group_count, groups, extremes_numbers, extremes_from, extremes_over, summary_of, group_at, resummed}
 use Rattle.extremes.specs.AskingSteps.{group_end}
@@ -26,35 +30,41 @@ front l i end d h k =
     let m : i < length l = omega arith in
     rw (e, add-one, drop-cons l i d m)
 
--- e is what the extremes have come to before index i, of the joint sets from `from` up to `end`
-pub record Widening (l : List Joints) (from end : ℕ) (e : Extremes) (i : ℕ) : Type 0 where
-  pub most : i ≤ end
-  pub room : end ≤ length l
-  pub whole : fold widened e (take (end - i) (drop i l)) ≡ extremes_of (take (end - from) (drop from l))
+chunks_widened : (n : ℕ) (e : Extremes) (l : List Float) → Std.fold (λ e c. widened e (joints_in c 0)) e (first_chunks 5 n l) ≡ fold widened e (rows 5 joints_from n l)
+unfolding rows fold joints_in
+chunks_widened zero e l = refl
+chunks_widened (suc n) e l =
+    ap (λ (j : Joints). Std.fold (λ e c. widened e (joints_in c 0)) (widened e j) (first_chunks 5 n (drop 5 l))) (Chunks.front l)
+    ∙ chunks_widened n (widened e (joints_from l)) (drop 5 l)
 
-module _ (joints : List Float) {from end : ℕ} where
-  pub widening_start : {j : Joints} → from < end → end ≤ length joints / 5 → j ≡ joints_in joints (from * 5) → Widening (sets_in joints) from end (level j) (from + 1)
-  unfolding extremes_of
-  widening_start {j} h k e =
-      let n = sets_length joints in
-      let m : end ≤ length (sets_in joints) = omega arith in
-      let s : get_or (sets_in joints) from (joints_from joints) ≡ j = set_is joints from (omega arith) ∙ sym e in
-      record { most = omega arith; room = m; whole = rw (front (sets_in joints) from end (joints_from joints) h m, s) }
+-- the numbers from an offset up to another are the joint sets from an index up to another
+span : (joints : List Float) (i end : ℕ) → i ≤ end → end ≤ length joints / 5
+    → rows 5 joints_from (end - i) (take (end * 5 - i * 5) (drop (i * 5) joints)) ≡ take (end - i) (drop i (sets_in joints))
+unfolding sets_in
+span joints i end h k =
+    let m = drop (i * 5) joints in
+    let w = end * 5 - i * 5 in
+    let n : length m ≡ length joints - i * 5 = length-drop (i * 5) joints in
+    let r : w ≤ length m = omega (arith, n) in
+    let t : length (take w m) ≡ w = length-take-le w m r in
+    let s : rows 5 joints_from (end - i) m ≡ rows 5 joints_from (end - i) (take w m) =
+    rw (take-append-drop w m) at (rows_append_le joints_codec (end - i) (take w m) (drop w m) (omega (arith, t))) in
+    sym s ∙ sym (rw (drop_rows 5 joints_from i (length joints / 5) joints) (take_rows 5 joints_from (end - i) (length joints / 5 - i) m (omega arith)))
 
-  pub widening_step : {e f : Extremes} {j : Joints} {i : ℕ} → i < end → Widening (sets_in joints) from end e i → j ≡ joints_in joints (i * 5) → f ≡ widened e j
-      → Widening (sets_in joints) from end f (i + 1)
-  unfolding fold
-  widening_step {e} {f} {j} {i} h w p q =
-      let n = sets_length joints in
-      let m = w.room in
-      let s : get_or (sets_in joints) i (joints_from joints) ≡ j = set_is joints i (omega arith) ∙ sym p in
-      record { most = omega arith; room = m; whole = rw q (rw (front (sets_in joints) i end (joints_from joints) h m, s) at w.whole) }
-
-  pub widening_end : {e : Extremes} {i : ℕ} → end ≤ i → Widening (sets_in joints) from end e i → e ≡ extremes_of (take (end - from) (drop from (sets_in joints)))
-  unfolding fold
-  widening_end {e} {i} h w =
-      let z : end - i ≡ 0 = omega arith in
-      rw z at w.whole
+pub span_widened : (joints : List Float) {from end : ℕ} {first : Joints} → from < end → end ≤ length joints / 5 → first ≡ joints_in joints (from * 5)
+    → (m : List Float) → m ≡ take (end * 5 - (from * 5 + 5)) (drop (from * 5 + 5) joints)
+    → Std.fold (λ e c. widened e (joints_in c 0)) (level first) (first_chunks 5 (length m / 5) m) ≡ extremes_of (take (end - from) (drop from (sets_in joints)))
+unfolding extremes_of
+span_widened joints {from} {end} {first} h k e m p =
+    let a : from * 5 + 5 ≡ (from + 1) * 5 = omega arith in
+    let n : length (drop (from * 5 + 5) joints) ≡ length joints - (from * 5 + 5) = length-drop (from * 5 + 5) joints in
+    let t : length m ≡ end * 5 - (from * 5 + 5) = rw p (length-take-le _ _ (omega (arith, n))) in
+    let c : length m / 5 ≡ end - (from + 1) = omega (arith, t) in
+    let z = sets_length joints in
+    let s : get_or (sets_in joints) from (joints_from joints) ≡ first = set_is joints from (omega arith) ∙ sym e in
+    let r : rows 5 joints_from (end - (from + 1)) m ≡ take (end - (from + 1)) (drop (from + 1) (sets_in joints)) = rw (p, a) (span joints (from + 1) end (omega arith) k) in
+    chunks_widened (length m / 5) (level first) m
+    ∙ rw (c, r, front (sets_in joints) from end (joints_from joints) h (omega (arith, z)), s)
 
 -- ---- one group
 pub stored : (e : Extremes) (s : List Float) (g : ℕ) → joints_over e.high (joints_over e.low s (g * 10)) (g * 10 + 5) ≡ extremes_over e s g

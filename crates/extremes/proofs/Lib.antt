@@ -7,3 +7,4 @@ pub mod Afresh
 pub mod Skipping
 pub mod Searching
 pub mod Answers
+pub mod FirstSome

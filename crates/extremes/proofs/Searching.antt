@@ -1,21 +1,23 @@
--- The two loops of the question: through the joint sets of a group, and from group to group.
+-- The two searches of the question: through the joint sets of a group, and from group to group.
 use Prim.Native.Nat.{ℕ, zero, suc, min, ◌+◌, ◌-◌, ◌*◌, ◌/◌, ◌%◌, ◌≤◌, ◌<◌}
 use native.Mathlib.Nat.{sub-zero}
 use native.Mathlib.Omega.{arith}
-use mathlib.Core.Path.{◌≡◌, refl, sym, ◌∙◌}
+use mathlib.Core.Path.{◌≡◌, refl, sym, ap, ◌∙◌}
 use mathlib.Core.Bool.{Bool, true, false, cond, ◌&&◌, false≢true}
 use mathlib.Core.List.{List}
 use borrow.Author.Tests.{lt-ltb, le-ltb, ltb-true, ltb-false}
-use Rattle.std.specs.Prelude.{Option, Some, None, is_some}
+use Rattle.std.specs.Prelude.{Option, Some, None, is_some, MatchOption}
+use Rattle.std.specs.List.{range_with_len}
 use Rattle.std.proofs.lemmas.Bool.Decides.{nat_tests}
 use lib.Dec.{ltb}
 use lib.Ieee.{Float}
 use Rattle.extremes.specs.Summary.{group_count}
 use Rattle.extremes.specs.Asking.{opened, first_index, above_at, hit, first_above}
-use Rattle.extremes.specs.AskingSteps.{group_end, in_group}
+use Rattle.extremes.specs.AskingSteps.{group_end, in_group, found_in_group}
 use Rattle.extremes.specs.Entries.{found_among}
 use Rattle.extremes.proofs.Groups.{end_is}
 use Rattle.extremes.proofs.Skipping.{same_index}
+use Rattle.extremes.proofs.FirstSome.{either, first_some}
 
 -- ---- an index that is one of n
 pub among : {n i : ℕ} → i < n → Some i ≡ found_among n i
@@ -82,30 +84,33 @@ split t k (suc a) b = rw e (go (t k) (split t (suc k) a b))
     go true h = rw (lt-ltb k (k + suc a) (omega arith))
     go false h = rw (← f) h
 
+-- ---- the library's search through a range
+first_found : {t : ℕ → Bool} {from end i : ℕ} → from ≤ i → i < end → t i ≡ true → ((k : ℕ) → from ≤ k → k < i → t k ≡ false) → first_index t from (end - from) ≡ i
+unfolding first_index
+first_found {t} {from} {end} {i} l h e f =
+    let s : end - from ≡ (i - from) + suc (end - (i + 1)) = omega (arith, l, h) in
+    let d : from + (i - from) ≡ i = omega (arith, l) in
+    let n : first_index t from (i - from) ≡ i = none_first from (i - from) t (λ k p q. f k p (omega (arith, q, d))) ∙ d in
+    rw s (split t from (i - from) (suc (end - (i + 1))) ∙ rw (d, n, le-ltb i i (omega arith), e))
+
+pub found_in : (t : ℕ → Bool) {from end : ℕ} (o : Option ℕ) → from ≤ end
+    → MatchOption o ((k : ℕ) → from ≤ k → k < end → false ≡ t k) (λ i. (from ≤ i) × (i < end) × (true ≡ t i) × ((k : ℕ) → from ≤ k → k < i → false ≡ t k))
+    → o ≡ found_among end (first_index t from (end - from))
+found_in t {from} {end} None l h =
+    let e = none_first from (end - from) t (λ k p q. sym (h k p (omega (arith, q, l)))) in
+    among_none (omega (arith, e, l))
+found_in t {from} {end} (Some i) l h =
+    among h.1 ∙ ap (found_among end) (sym (first_found h.0 h.1 (sym h.2) (λ k p q. sym (h.3 k p q))))
+
 -- ---- none from `from` up to i passes, of those before `end`
 pub record Going (t : ℕ → Bool) (from end i : ℕ) : Type 0 where
   pub least : from ≤ i
   pub most : i ≤ end
   pub whole : first_index t i (end - i) ≡ first_index t from (end - from)
 
-left : (end i : ℕ) → i < end → end - i ≡ suc (end - (i + 1))
-left end i h = omega (arith, h)
-
 module _ {t : ℕ → Bool} {from end : ℕ} where
   pub going_start : from ≤ end → Going t from end from
   going_start h = record { least = omega arith; most = h; whole = refl }
-
-  pub going_step : {i : ℕ} → i < end → t i ≡ false → Going t from end i → Going t from end (i + 1)
-  unfolding first_index
-  going_step {i} h e g =
-      let s : suc i ≡ i + 1 = omega arith in
-      let w : first_index t (suc i) (end - (i + 1)) ≡ first_index t from (end - from) = rw (left end i h, e) at g.whole in
-      let l = g.least in
-      record { least = omega (arith, l); most = omega (arith, h); whole = rw s at w }
-
-  pub going_found : {i : ℕ} → i < end → t i ≡ true → Going t from end i → i ≡ first_index t from (end - from)
-  unfolding first_index
-  going_found {i} h e g = rw (left end i h, e) at g.whole
 
   pub going_end : {i : ℕ} → end ≤ i → Going t from end i → i ≡ first_index t from (end - from)
   unfolding first_index
@@ -214,3 +219,33 @@ module _ {rotary : ℕ} {angle : Float} {s joints : List Float} {n : ℕ} where
       let p = groups_before g n h in
       let e : min (g * 64) n ≡ g * 64 = omega (arith, p) in
       rw e at v
+
+-- from group g on, m groups are left
+module _ (rotary : ℕ) (angle : Float) (s joints : List Float) (n : ℕ) where
+  pub groups_left : (m g : ℕ) → g + m ≡ group_count n → Groups rotary angle s joints n (min (g * 64) n)
+      → first_some (found_in_group rotary angle s joints n) (range_with_len g m) ≡ found_among n (first_above rotary angle s joints n)
+  groups_left zero g e h =
+      among_none (omega arith) ∙ ap (found_among n) (groups_end (rw (groups_over g n (omega (arith, e))) at h))
+  groups_left (suc m) g e h = go (groups_left m (g + 1) (omega (arith, e))) (found_in_group rotary angle s joints n g) refl
+    where
+      this : g < group_count n
+      this = omega (arith, e)
+
+      at_g : Groups rotary angle s joints n (g * 64)
+      at_g = at_start this h
+
+      before : g * 64 < n
+      before = groups_before g n this
+
+      last : group_end (g * 64) n ≤ n
+      last = (end_is (g * 64) n before (at_g.starts before)).1.0
+
+      go : (Groups rotary angle s joints n (min ((g + 1) * 64) n) → first_some (found_in_group rotary angle s joints n) (range_with_len (g + 1) m) ≡ found_among n (first_above rotary angle s joints n))
+          → (o : Option ℕ) → found_in_group rotary angle s joints n g ≡ o
+          → either o (first_some (found_in_group rotary angle s joints n) (range_with_len (g + 1) m)) ≡ found_among n (first_above rotary angle s joints n)
+      go later (Some i) f =
+          let below = found_below {n = group_end (g * 64) n} (sym f) refl in
+          sym f ∙ found_further below last ∙ ap (found_among n) (groups_found before at_g refl refl below)
+      go later None f =
+          let over = found_none {n = group_end (g * 64) n} (sym f) refl in
+          later (rw (next_start g n before) (groups_step before at_g refl refl over))

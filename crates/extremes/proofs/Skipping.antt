@@ -21,7 +21,8 @@ use Rattle.chain.specs.Check.{joints_finite}
 use Rattle.turn.specs.Items.{joints_from, joints_in}
 use Rattle.extremes.specs.declared.Extremes.{Extremes}
 use Rattle.extremes.specs.Summary.{upper, upper_set, level, widened, extremes_of, group_count, summary_of, group_at}
-use Rattle.extremes.specs.Asking.{angle_of, above, opened, above_at, hit, first_index, first_above, full_reading}
+use Rattle.chain.specs.Angles.{angle_of}
+use Rattle.extremes.specs.Asking.{above, opened, above_at, hit, first_index, first_above, full_reading}
 use Rattle.extremes.proofs.Comparing.{or_right, above_upper, finite_number, upper_number}
 use Rattle.extremes.proofs.Groups.{summary_at, in_group, group_has}
 

@@ -1,12 +1,10 @@
 -- Whether a path comes near a stop: the first joint set with an angle of a rotary above a given one, among the groups
 -- whose largest is above.
-use Rattle.std.specs.Prelude.{Bool, cond, ◌&&◌, List, ℕ, zero, suc, ◌+◌, ◌*◌, ◌/◌, eqb, Float}
+use Rattle.std.specs.Prelude.{Bool, cond, ◌&&◌, List, ℕ, zero, suc, ◌+◌, ◌*◌, ◌/◌, Float}
 use Rattle.std.specs.Float.Ieee as Ieee
 use Rattle.chain.specs.declared.Joints.{Joints}
+use Rattle.chain.specs.Angles.{angle_of}
 use Rattle.turn.specs.Items.{joints_in}
-
-unfoldable pub angle_of : ℕ → Joints → Float
-angle_of rotary j = cond (eqb rotary 0) j.a0 j.a1
 
 -- compared as floats, and strictly
 unfoldable pub above : ℕ → Float → Joints → Bool

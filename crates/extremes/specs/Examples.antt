@@ -15,7 +15,8 @@ use Rattle.chain.specs.declared.Joints.{Joints}
 use Rattle.chain.specs.Check.{within}
 use Rattle.turn.specs.Items.{joints_in}
 use Rattle.extremes.specs.Summary.{sets_in, lower, upper, lower_set, upper_set, widened, extremes_of, group_count, groups, summary_of}
-use Rattle.extremes.specs.Asking.{angle_of, above, opened, above_at, hit, first_index, first_above}
+use Rattle.chain.specs.Angles.{angle_of}
+use Rattle.extremes.specs.Asking.{above, opened, above_at, hit, first_index, first_above}
 use Rattle.extremes.specs.Checking.{lengths_good, ask_good, ask_check}
 use Rattle.extremes.specs.Entries.{found_among, ask_of}
 

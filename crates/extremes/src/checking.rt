@@ -35,14 +35,14 @@ fn ask_good(joints: usize, summary: usize, rotary: usize) -> bool
 pub fn all_finite(joints: &[f64]) -> bool
     ensures { result ≡ all joints_finite (sets_in joints.now) }
 {
-    turn::every_set(joints, joints.len() / 5, |j| chain::joints_finite(j))
+    turn::every_set(joints, |j| chain::joints_finite(j))
 }
 
 #[tactic(auto, unfolding(crate::specs::Summary::sets_in))]
 pub fn all_within(joints: &[f64]) -> bool
     ensures { result ≡ all joints_within (sets_in joints.now) }
 {
-    turn::every_set(joints, joints.len() / 5, |j| chain::joints_within(j))
+    turn::every_set(joints, |j| chain::joints_within(j))
 }
 
 #[tactic(auto, unfolding(crate::specs::Checking::build_check))]

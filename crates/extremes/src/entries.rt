@@ -4,9 +4,9 @@ ghost use Rattle.std.specs.Prelude.{◌≡◌, length};
 ghost use Rattle.extremes.specs.Checking as C;
 ghost use Rattle.extremes.specs.Entries as S;
 
-use crate::asking::first_above;
 use crate::checking::{ask_check, build_check, replace_check};
 use crate::summing::{sum_group, sum_groups};
+use crate::{Question, Summed};
 use refusal::Refusal;
 
 // Writes the summary of the joints.
@@ -52,6 +52,6 @@ pub fn ask(
     ensures skipped { S.Skips joints.now summary.now rotary angle result }
 {
     ask_check(joints.len(), summary.len(), rotary, angle)?;
-    let n = joints.len() / 5;
-    Ok(first_above(rotary, angle, summary, joints, n))
+    let path = Summed { joints, summary };
+    Ok(Question { rotary, angle }.first_above(&path))
 }

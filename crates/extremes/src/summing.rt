@@ -1,6 +1,9 @@
 // The summary of a path in lent numbers: the extremes of a group of joint sets, of one group and of all.
 ghost use Rattle.std.specs.Prelude.{◌+◌, ◌-◌, ◌*◌, ◌/◌, ◌≤◌, ◌<◌, ◌≡◌, length, take, drop};
+ghost use Rattle.std.specs.List.{fold};
+ghost use Rattle.std.specs.Simd.{first_chunks};
 ghost use Rattle.float.specs.TotalOrder.{before};
+ghost use Rattle.turn.specs.Items.{joints_in};
 ghost use Rattle.extremes.specs.Summary as S;
 ghost use Rattle.extremes.specs.AskingSteps.{group_end};
 
@@ -8,15 +11,16 @@ use crate::Extremes;
 use chain::Joints;
 use geometry::Vec3;
 
-// Whether x stands before y in totalOrder. Two numbers of which one is less take no key.
+// Whether x stands before y in totalOrder. Two numbers of which one is less take no key. That y is less is asked first:
+// most numbers of a group are between its extremes, and then this is the only test.
 fn earlier(x: f64, y: f64) -> bool
     ensures { result ≡ before x y }
 {
-    if x < y {
-        return true;
-    }
     if y < x {
         return false;
+    }
+    if x < y {
+        return true;
     }
     float::precedes(x, y)
 }
@@ -64,20 +68,26 @@ fn widened(e: Extremes, j: Joints) -> Extremes
     Extremes { low, high }
 }
 
+// Over chunks, of which `chunks_widened` says that they are the joint sets.
+fn widened_by(e: Extremes, joints: &[f64]) -> Extremes
+    ensures { result ≡ fold (λ e c. S.widened e (joints_in c 0)) e (first_chunks 5 (length joints.now / 5) joints.now) }
+{
+    let (sets, _) = joints.as_chunks::<5>();
+    sets.iter()
+        .fold(e, |e, set| widened(e, turn::joints_in(set, 0)))
+}
+
 // Of the joint sets from an index up to an end, at least one.
 fn extremes_at(joints: &[f64], from: usize, end: usize) -> Extremes
     requires { (from < end) × (end ≤ length joints.now / 5) }
     ensures { result ≡ S.extremes_of (take (end - from) (drop from (S.sets_in joints.now))) }
 {
     let first = turn::joints_in(joints, from * 5);
-    let mut e = Extremes {
+    let e = Extremes {
         low: first,
         high: first,
     };
-    for i in from + 1..end {
-        e = widened(e, turn::joints_in(joints, i * 5));
-    }
-    e
+    widened_by(e, &joints[from * 5 + 5..end * 5])
 }
 
 // Where the group that begins at an index ends: after 64, or with the last joint set.
@@ -101,7 +111,8 @@ fn put_extremes(e: Extremes, summary: &mut [f64], g: usize)
     path::put_joints(e.high, summary, g * 10 + 5);
 }
 
-// One group, worked out afresh.
+// One group, worked out afresh. It is written by its index and not as one of the rows of ten: once a borrow from
+// `as_chunks_mut` is over, a proof knows the list's length and not its numbers.
 pub fn sum_group(joints: &[f64], summary: &mut [f64], g: usize)
     requires { (g * 64 < length joints.now / 5) × (g * 10 + 10 ≤ length summary.old) }
     ensures { summary.new ≡ S.resummed summary.old (S.sets_in joints.now) g }

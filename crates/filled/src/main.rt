@@ -9,10 +9,10 @@
 ghost use Rattle.std.specs.Prelude.{◌≡◌};
 ghost use Rattle.machine.specs.Filling.{filling, after};
 
-use chain::{Joints, Mount, Prepared, Spin};
+use chain::{Carrier, Joints, Prepared, Spin};
 use geometry::Vec3;
 use machine::Subdiv;
-use middle::Item;
+use middle::{Item, Tolerances};
 use std::io;
 use std::io::Write;
 use text::{Float, Hexadecimal};
@@ -22,8 +22,10 @@ fn main(rt: HostRuntime) -> io::Result<()> {
     let p = machine();
     let job = Subdiv {
         inserted: 0,
-        chord: 0.05,
-        axis: 4.0,
+        tol: Tolerances {
+            chord: 0.05,
+            axis: 4.0,
+        },
     };
     let first = item(p, 0.0);
     let second = item(p, 40.0);
@@ -35,35 +37,16 @@ fn main(rt: HostRuntime) -> io::Result<()> {
 
 // A table that turns about y, and the spindle along z.
 fn machine() -> Prepared {
-    let y = Vec3 {
-        x: 0.0,
-        y: 1.0,
-        z: 0.0,
-    };
-    let z = Vec3 {
-        x: 0.0,
-        y: 0.0,
-        z: 1.0,
-    };
-    let zero = Vec3 {
-        x: 0.0,
-        y: 0.0,
-        z: 0.0,
-    };
+    let zero = Vec3::default();
     let first = Spin {
-        mount: Mount::Table,
-        axis: y,
-        pivot: zero,
-    };
-    let second = Spin {
-        mount: Mount::Absent,
-        axis: z,
+        carrier: Carrier::Table,
+        axis: Vec3 { y: 1.0, ..zero },
         pivot: zero,
     };
     Prepared {
         first,
-        second,
-        spindle: z,
+        second: None,
+        spindle: Vec3 { z: 1.0, ..zero },
     }
 }
 
@@ -77,7 +60,7 @@ fn item(p: Prepared, angle: f64) -> Item {
     let joints = Joints {
         xyz,
         a0: angle,
-        a1: 0.0,
+        ..Joints::default()
     };
     let pose = middle::pose_of(p, joints);
     Item { pose, joints }

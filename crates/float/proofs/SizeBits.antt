@@ -1,11 +1,10 @@
 -- The size of a float by its bit pattern: the same pattern with no sign.
 use Rattle.std.proofs.Common.{◌≡◌, ℕ, zero, suc, ◌+◌, ◌%◌, ◌^◌, ◌<◌, ◌≤◌, Bool, true, false, cond, not, T, ℤ, sym, refl, ap, ◌∙◌, subst, arith, lit≤}
 use mathlib.Core.Bool.{false≢true}
-use lib.Ieee.{Float, nan, inf, fin, binary64, ne, fits, is_nan, to_bits, of_bits, nan_bits}
+use lib.Ieee.{Float, nan, inf, fin, binary64, fits, is_nan, to_bits, of_bits, nan_bits}
 use lib.Ieee.Bits.{of_bits-to_bits}
 use Rattle.float.proofs.Units.{held}
 use Rattle.float.proofs.Pattern.{rank, bits_rank, rank_hi}
-use Rattle.float.proofs.Choices.{nan_of}
 use Rattle.float.proofs.NotNan.{low_bits}
 use Rattle.float.specs.Helpers.{size_of}
 

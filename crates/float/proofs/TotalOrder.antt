@@ -1,5 +1,5 @@
 -- `order_key` is in the order that `before` states, and tells floats apart: so a comparison of two keys is totalOrder.
-use Rattle.std.proofs.Common.{◌≡◌, ℕ, ◌+◌, ◌-◌, ◌^◌, ◌<◌, ◌≤◌, Bool, true, false, cond, not, ◌&&◌, ◌||◌, T, ltb, ◌⊎◌, ℤ, sym, refl, ap, ◌∙◌, subst, inl, inr, true≢false, le_of_eq, lt_of_le_of_lt, le_antisymm, not-le_of_lt, arith, lit<, ltb-true, le-ltb, lt-ltb}
+use Rattle.std.proofs.Common.{◌≡◌, ℕ, ◌+◌, ◌-◌, ◌^◌, ◌<◌, ◌≤◌, Bool, true, false, cond, not, ◌&&◌, ◌||◌, T, ltb, ◌⊎◌, ℤ, sym, refl, ap, ◌∙◌, subst, inl, inr, true≢false, le_of_eq, lt_of_le_of_lt, le_antisymm, not-le_of_lt, arith, lit<, ltb-true, ltb-false, le-ltb, lt-ltb}
 use lib.Ieee.{Float, nan, inf, fin, binary64, neg, lt, eq, le, fits, is_nan, to_bits}
 use lib.Ieee.Fits.{neg-fits}
 use Rattle.float.proofs.Units.{held, le_or_lt, number}
@@ -7,7 +7,10 @@ use Rattle.float.proofs.Pattern.{rank, bits_rank, rank_hi, rank_mono, rank_one}
 use Rattle.float.proofs.Order.{iff_eq, lt_is, lt_not_le, not_le_lt, neg_le}
 use Rattle.float.proofs.Signed.{le_val, val_le, neg_is}
 use Rattle.float.specs.Units.{Is}
-use Rattle.float.specs.TotalOrder.{before, order_key}
+use Rattle.float.specs.TotalOrder.{before, total_compare, order_key}
+use Rattle.std.specs.Ordering.{nat_cmp, MatchOrdering}
+use Rattle.std.specs.Cmp.{nat_cmp_is}
+use Rattle.std.specs.declared.cmp.Ordering.TheVariants.{Less, Equal, Greater}
 
 -- ---- where a key stands: p is the pattern, the sign apart
 abbrev place : Bool → ℕ → ℕ
@@ -233,6 +236,19 @@ before_is (fin s m e) (fin t n d) tx ty =
     ∙ ap (λ (z : ℕ). ltb (order_key (fin s m e)) z) (sym (fin_key (fin t n d) t Y.v j Y.small))
 
 -- ---- so totalOrder is one of whole numbers
+-- comparing two numbers is two tests
+by_tests : (a b : ℕ) → nat_cmp a b ≡ cond (ltb a b) Less (cond (ltb b a) Greater Equal)
+by_tests a b = sym (nat_cmp_is a b _ (go (ltb a b) (ltb b a) refl refl))
+  where
+    go : (p q : Bool) → ltb a b ≡ p → ltb b a ≡ q → MatchOrdering (cond p Less (cond q Greater Equal)) (a < b) (a ≡ b) (b < a)
+    go true q h l = ltb-true a b h
+    go false true h l = ltb-true b a l
+    go false false h l = le_antisymm (ltb-false b a l) (ltb-false a b h)
+
+pub compare_is : (x y : Float) → T (fits binary64 x) → T (fits binary64 y) → nat_cmp (order_key x) (order_key y) ≡ total_compare x y
+unfolding total_compare
+compare_is x y tx ty = rw (before_is x y tx ty, before_is y x ty tx) (by_tests (order_key x) (order_key y))
+
 pub before_irreflexive : (x : Float) → T (fits binary64 x) → before x x ≡ false
 before_irreflexive x t = before_is x x t t ∙ le-ltb (order_key x) (order_key x) (le_of_eq refl)
 

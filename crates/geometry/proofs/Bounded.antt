@@ -15,7 +15,7 @@ use Rattle.geometry.specs.declared.Vec3.{Vec3}
 use Rattle.geometry.specs.declared.Turn.{Turn}
 use Rattle.geometry.specs.Vector as G
 use Rattle.geometry.specs.Direction.{all_finite}
-use Rattle.geometry.specs.Turn.{turn_of, rotate_vector, rotate_point}
+use Rattle.geometry.specs.Turn.{still, turn_of, rotate_vector, rotate_point}
 use Rattle.geometry.proofs.FitVectors.{FitVec}
 use Rattle.geometry.proofs.TurnPair.{TurnSized, turn_pair}
 
@@ -58,7 +58,7 @@ sized_small t T = (twice t.sine T.sine T.sine_most, twice t.cosine T.cosine T.co
 pub turn_small : (degrees : Float) → SmallTurn (turn_of degrees)
 turn_small degrees = sized_small (turn_of degrees) (turn_pair degrees)
 
-pub still_small : SmallTurn (record { sine = nought; cosine = one })
+pub still_small : SmallTurn still
 still_small = (raise 0 1 nought (lit≤ tt) nought_small, raise 0 1 one (lit≤ tt) one_small)
 
 -- ---- sums, differences, multiples and products

@@ -19,7 +19,7 @@ use Rattle.trig.specs.DegreeSteps.{degree_pair}
 use Rattle.trig.proofs.DegreeSizes.{Tidy, TidyPair, pair_tidy, nought_tidy, one_tidy}
 use Rattle.trig.proofs.DegreeWide.{Wide, WidePair, pair_wide, one_wide}
 use Rattle.geometry.specs.declared.Turn.{Turn}
-use Rattle.geometry.specs.Turn.{turned, turn_of}
+use Rattle.geometry.specs.Turn.{still, turned, turn_of}
 
 pub record TurnSized (t : Turn) : Type 0 where
   pub sine : Held t.sine
@@ -59,7 +59,7 @@ pair_sized s c S C w = record { sine = S.units; cosine = C.units; sine_most = S.
     go (inr w) = inr (C.wide w)
 
 -- no turn: +0.0 and 1
-pub still_sized : TurnSized (record { sine = nought; cosine = one })
+pub still_sized : TurnSized still
 still_sized = pair_sized nought one (sizes nought (of_bits-fits binary64 0) nought_tidy) (sizes one (of_bits-fits binary64 0x3ff0_0000_0000_0000) one_tidy) (inr one_wide)
 
 turned_sized : (p : Option Pair) → TidyPair p → WidePair p → TurnSized (turned p)

@@ -7,10 +7,14 @@ use Rattle.geometry.specs.Vector.{add, sub, scale, dot, cross, times, minus}
 use Rattle.geometry.specs.declared.Vec3.{Vec3}
 use Rattle.geometry.specs.declared.Turn.{Turn}
 
+-- no turn: sine +0.0 and cosine 1
+abbrev pub still : Turn
+still = record { sine = nought; cosine = one }
+
 -- beyond 45,000 degrees: no turn
 abbrev pub turned : Option Pair → Turn
 turned (Some p) = record { sine = p.sine; cosine = p.cosine }
-turned None = record { sine = nought; cosine = one }
+turned None = still
 
 -- by that many degrees
 unfoldable pub turn_of : Float → Turn

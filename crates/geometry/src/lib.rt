@@ -1,6 +1,6 @@
 // Vectors, directions, turns and rigid placements, operation by operation in the order of the Rust (top of
-// kinematics.rs, geom.rs). Structs of numbers go in and come out by value. Every function is total: where a step of the
-// Rust could give nothing, its caller opens an enum.
+// kinematics.rs, geom.rs). Structs of numbers go in and come out by value. Every function is total: where there is no
+// direction the answer is None, or a fallback that is named beside it.
 #![tactic(auto)]
 
 mod normal;
@@ -21,7 +21,8 @@ pub struct Vec3 {
     pub z: f64,
 }
 
-// The sine and cosine of an angle, by which a vector is turned.
+// The sine and cosine of an angle, by which a vector is turned. Not `trig::Pair`, of the same two fields: `of` and
+// `turned_back` would stand in trig, which knows no turn, and chain, model and hirth, which keep turns, be built on it.
 #[derive(Clone, Copy)]
 pub struct Turn {
     pub sine: f64,

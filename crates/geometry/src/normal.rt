@@ -3,7 +3,7 @@ ghost use Rattle.std.specs.Prelude.{◌≡◌};
 ghost use Rattle.geometry.specs.Direction as S;
 
 use crate::Vec3;
-use crate::vector::dot;
+use crate::vector::norm;
 
 // Every component is finite.
 #[tactic(auto, unfolding(crate::specs::Direction::all_finite))]
@@ -14,18 +14,11 @@ pub fn all_finite(v: Vec3) -> bool
 }
 
 // No component is more than 1e-15 in size.
+#[tactic(auto, unfolding(crate::specs::Direction::tiny))]
 fn tiny(v: Vec3) -> bool
     ensures { result ≡ S.tiny v }
 {
-    let x = float::size(v.x);
-    if !(x <= 1e-15) {
-        return false;
-    }
-    let y = float::size(v.y);
-    if !(y <= 1e-15) {
-        return false;
-    }
-    float::size(v.z) <= 1e-15
+    float::size(v.x) <= 1e-15 && float::size(v.y) <= 1e-15 && float::size(v.z) <= 1e-15
 }
 
 // v by its length.
@@ -41,8 +34,8 @@ fn with_length(v: Vec3, len: f64) -> Option<Vec3>
     Some(v * (1.0 / len))
 }
 
-// Nowhere for a component that is not finite, for a vector of which no component is above 1e-15 in size, and for a
-// length that overflows.
+// None for a component that is not finite, for a vector of which no component is above 1e-15 in size, and for a length
+// that overflows.
 pub fn unit_direction(v: Vec3) -> Option<Vec3>
     ensures { result ≡ S.unit_direction v }
 {
@@ -52,8 +45,7 @@ pub fn unit_direction(v: Vec3) -> Option<Vec3>
     if tiny(v) {
         return None;
     }
-    let len = root::quick_root(dot(v, v));
-    with_length(v, len)
+    with_length(v, norm(v))
 }
 
 // The unit vector of v, or `fallback` where there is none.

@@ -2,32 +2,27 @@
 ghost use Rattle.std.specs.Prelude.{◌≡◌};
 ghost use Rattle.geometry.specs.Rigid as S;
 
+use crate::vector::dot;
 use crate::{Rigid, Vec3};
 
 impl Rigid {
+    #[tactic(auto, unfolding(crate::specs::Rigid::identity))]
     pub fn identity() -> Rigid
         ensures { result ≡ S.identity }
     {
         Rigid {
-            origin: Vec3 {
-                x: 0.0,
-                y: 0.0,
-                z: 0.0,
-            },
+            origin: Vec3::default(),
             axis_x: Vec3 {
                 x: 1.0,
-                y: 0.0,
-                z: 0.0,
+                ..Vec3::default()
             },
             axis_y: Vec3 {
-                x: 0.0,
                 y: 1.0,
-                z: 0.0,
+                ..Vec3::default()
             },
             axis_z: Vec3 {
-                x: 0.0,
-                y: 0.0,
                 z: 1.0,
+                ..Vec3::default()
             },
         }
     }
@@ -67,9 +62,9 @@ impl Rigid {
         let c = self.axis_z;
         Rigid {
             origin: Vec3 {
-                x: -(a.x * o.x + a.y * o.y + a.z * o.z),
-                y: -(b.x * o.x + b.y * o.y + b.z * o.z),
-                z: -(c.x * o.x + c.y * o.y + c.z * o.z),
+                x: -dot(a, o),
+                y: -dot(b, o),
+                z: -dot(c, o),
             },
             axis_x: Vec3 {
                 x: a.x,

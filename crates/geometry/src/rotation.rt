@@ -7,16 +7,24 @@ use crate::vector::{cross, dot};
 use crate::{Turn, Vec3};
 
 impl Turn {
+    // The turn that stands still: that of +0.0 degrees, and of a rotary that is not there or does not move.
+    pub fn still() -> Turn
+        ensures { result ≡ S.still }
+    {
+        Turn {
+            sine: 0.0,
+            cosine: 1.0,
+        }
+    }
+
     // By that many degrees, right-handed. Beyond 45,000 degrees, and for a NaN, it is no turn at all. No entry comes to
-    // that: the files NeverFallback.antt of chain, inverse, path and divide prove it.
+    // that: the files NeverFallback.antt of chain, inverse, path and divide prove it. No `From<trig::Pair>`: no other
+    // turn is made of a pair.
     pub fn of(degrees: f64) -> Turn
         ensures { result ≡ S.turn_of degrees }
     {
         let Some(p) = trig::of_degrees(degrees) else {
-            return Turn {
-                sine: 0.0,
-                cosine: 1.0,
-            };
+            return Turn::still();
         };
         Turn {
             sine: p.sine,
@@ -30,7 +38,7 @@ impl Turn {
     {
         Turn {
             sine: 0.0 - self.sine,
-            cosine: self.cosine,
+            ..self
         }
     }
 }

@@ -20,20 +20,19 @@ fn half_turn(start: Vec3, t: f64) -> Vec3
     unit_or(start * p.cosine + side * p.sine, start)
 }
 
+#[tactic(auto, unfolding(crate::specs::Slerp::side_helper))]
 fn side_helper(start: Vec3) -> Vec3
     ensures { result ≡ S.side_helper start }
 {
     if 0.9 < float::size(start.x) {
         return Vec3 {
-            x: 0.0,
             y: 1.0,
-            z: 0.0,
+            ..Vec3::default()
         };
     }
     Vec3 {
         x: 1.0,
-        y: 0.0,
-        z: 0.0,
+        ..Vec3::default()
     }
 }
 

@@ -10,7 +10,6 @@ impl Add for Vec3 {
 
     ghost add_gives = { λ a b sum. sum ≡ S.add a b };
 
-    #[tactic(auto, unfolding(crate::specs::Vector::add))]
     fn add(self, other: Vec3) -> Vec3 {
         Vec3 {
             x: self.x + other.x,
@@ -25,7 +24,6 @@ impl Sub for Vec3 {
 
     ghost sub_gives = { λ a b difference. difference ≡ S.sub a b };
 
-    #[tactic(auto, unfolding(crate::specs::Vector::sub))]
     fn sub(self, other: Vec3) -> Vec3 {
         Vec3 {
             x: self.x - other.x,
@@ -40,7 +38,6 @@ impl Mul<f64> for Vec3 {
 
     ghost mul_gives = { λ a factor product. product ≡ S.scale a factor };
 
-    #[tactic(auto, unfolding(crate::specs::Vector::scale))]
     fn mul(self, factor: f64) -> Vec3 {
         Vec3 {
             x: self.x * factor,
@@ -81,12 +78,9 @@ pub fn gap_vec(left: Vec3, right: Vec3) -> f64
 }
 
 // The point at t on the way from left to right.
+#[tactic(auto, unfolding(crate::specs::Vector::lerp_vec, crate::specs::Vector::add, crate::specs::Vector::sub, crate::specs::Vector::scale))]
 pub fn lerp_vec(left: Vec3, right: Vec3, t: f64) -> Vec3
     ensures { result ≡ S.lerp_vec left right t }
 {
-    Vec3 {
-        x: left.x + (right.x - left.x) * t,
-        y: left.y + (right.y - left.y) * t,
-        z: left.z + (right.z - left.z) * t,
-    }
+    left + (right - left) * t
 }

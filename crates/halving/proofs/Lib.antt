@@ -4,4 +4,3 @@ pub mod Ends
 pub mod Pairs
 pub mod Looser
 pub mod Machine
-pub mod Moving

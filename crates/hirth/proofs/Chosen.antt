@@ -25,7 +25,7 @@ use Rattle.chain.specs.declared.Prepared.{Prepared}
 use Rattle.chain.specs.declared.ToolPose.{ToolPose}
 use Rattle.chain.specs.Prepared.{prepared}
 use Rattle.inverse.specs.declared.Angles.{Angles}
-use Rattle.inverse.specs.declared.Best.{Best}
+use Rattle.inverse.specs.declared.Ranked.{Ranked}
 use Rattle.inverse.specs.declared.Choice.{Choice}
 use Rattle.inverse.specs.declared.Choice.TheVariants.{Nearest, FirstPositive, FirstNegative}
 use Rattle.arrayvec.specs.ArrayVec.{ArrayVec}
@@ -142,16 +142,16 @@ module _ (s : List Joints) (S : Each Within s) where
   first_within : Within (Choose.first s)
   first_within = each_get Within s 0 nowhere S nowhere_within
 
-  nearer_within : (preferred : Angles) (best : Best) (j : Joints) → Within best.joints → Within j → Within (nearer preferred best j).joints
+  nearer_within : (preferred : Angles) (best : Ranked) (j : Joints) → Within best.joints → Within j → Within (nearer preferred best j).joints
   unfolding nearer best_of
   nearer_within preferred best j B J =
-      chosen (λ (b : Best). Within b.joints) (Ieee.le best.distance (best_of preferred j).distance) _ _ (λ e. B) (λ e. J)
+      chosen (λ (b : Ranked). Within b.joints) (Ieee.le best.distance (best_of preferred j).distance) _ _ (λ e. B) (λ e. J)
 
   nearest_within : (preferred : Angles) → Within (nearest s preferred)
   unfolding nearest best_of
   nearest_within preferred =
-      subst (λ (b : Best). Within b.joints) (fold_is (nearer preferred) (best_of preferred (Choose.first s)) s)
-      (fold_keeps (λ (b : Best). Within b.joints) Within (nearer preferred) (λ b j B J. nearer_within preferred b j B J) s (best_of preferred (Choose.first s)) first_within S)
+      subst (λ (b : Ranked). Within b.joints) (fold_is (nearer preferred) (best_of preferred (Choose.first s)) s)
+      (fold_keeps (λ (b : Ranked). Within b.joints) Within (nearer preferred) (λ b j B J. nearer_within preferred b j B J) s (best_of preferred (Choose.first s)) first_within S)
 
   suiting_within : (choice : Choice) → Within (first_suiting s choice)
   unfolding first_suiting

@@ -21,7 +21,7 @@ use Rattle.chain.specs.Forward.{length_good}
 use Rattle.arrayvec.specs.ArrayVec.{ArrayVec}
 use Rattle.inverse.specs.declared.Angles.{Angles}
 use Rattle.inverse.specs.declared.Choice.{Choice}
-use Rattle.inverse.specs.declared.RawPair.{RawPair}
+use Rattle.inverse.specs.UpToTwo.{RawPair}
 use Rattle.inverse.specs.Choose.{choose, chosen, hint_of}
 use Rattle.inverse.specs.Inverse.{Answers, checked_in, raw_angles, wrapped, solutions, some_raw, positions_finite, hint_finite, inverse_sizes, solved_check, answered, solved, inverse_check, toward, unless_refused, inverse}
 use Rattle.divide.specs.Checking.{tolerance_good}
@@ -56,7 +56,7 @@ cond_own : (b : Bool) (c d : Checked) → Own c → Own d → Own (cond b c d)
 cond_own true c d f g = f
 cond_own false c d f g = g
 
-rotary_own : (j : RotaryJoint) (earlier i : ℕ) → Own (rotary_check j earlier i)
+rotary_own : (j : RotaryJoint) (earlier : Option ℕ) (i : ℕ) → Own (rotary_check j earlier i)
 unfolding rotary_check
 rotary_own j earlier i =
     then_own _ _ (demand_own (known_letter j.letter) Cause.RotaryLetter i tt)
@@ -68,13 +68,13 @@ rotary_own j earlier i =
 
 second_own : (k : Kinematics) → Own (second_check k)
 unfolding second_check
-second_own k = cond_own (eqb k.count 2) _ _ (rotary_own k.second k.first.letter 1) (record { number = tt })
+second_own k = cond_own (eqb k.count 2) _ _ (rotary_own k.second (Some k.first.letter) 1) (record { number = tt })
 
 chain_own : (k : Kinematics) → Own (chain_check k)
 unfolding chain_check
 chain_own k =
     then_own _ _ (demand_own (one_or_two k.count) Cause.RotaryCount 0 tt)
-    (then_own _ _ (rotary_own k.first 0 0)
+    (then_own _ _ (rotary_own k.first None 0)
     (then_own _ _ (second_own k)
     (then_own _ _ (demand_own (all_finite k.spindle_axis) Cause.ChainNotFinite 0 tt) (demand_own (has_direction k.spindle_axis) Cause.SpindleZero 0 tt))))
 

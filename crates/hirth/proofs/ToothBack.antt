@@ -13,11 +13,12 @@ use Rattle.trig.proofs.WaveSteps.{lt_pos, lt_neg, swap}
 use Rattle.geometry.specs.declared.Turn.{Turn}
 use Rattle.geometry.specs.declared.Vec3.{Vec3}
 use Rattle.geometry.specs.Turn.{turned_back}
-use Rattle.chain.specs.declared.Mount.{Mount}
-use Rattle.chain.specs.declared.Mount.TheVariants.{Table, Head, Absent}
+use Rattle.chain.specs.declared.Carrier.{Carrier}
+use Rattle.chain.specs.declared.Carrier.TheVariants.{Table, Head}
 use Rattle.chain.specs.declared.Prepared.{Prepared}
 use Rattle.chain.specs.Check.{within}
-use Rattle.chain.specs.Forward.{swing_from, forth_from, position}
+use Rattle.chain.specs.Forward.{of_second, swing_from, forth_from, position}
+use Rattle.chain.proofs.TablesForth.{second_from}
 use Rattle.inverse.specs.declared.Angles.{Angles}
 use Rattle.inverse.specs.Inverse.{joints_from}
 use Rattle.hirth.specs.Snapping.{two}
@@ -133,20 +134,19 @@ unfolding turned_back
 tooth_back a = at a
 
 -- ---- so the position is worked out with every table turned forth by its tooth
-abbrev pub tooth_forth : Mount → Float → Turn
+abbrev pub tooth_forth : Carrier → Float → Turn
 tooth_forth Table angle = tooth_turn angle
 tooth_forth Head angle = still
-tooth_forth Absent angle = still
 
-swing_forth : (m : Mount) (a : Float) → swing_from m (tooth_swing m a) ≡ tooth_forth m a
+swing_forth : (m : Carrier) (a : Float) → swing_from m (tooth_swing m a) ≡ tooth_forth m a
 swing_forth Table a = tooth_back a
 swing_forth Head a = refl
-swing_forth Absent a = refl
 
 pub position_forth : (p : Prepared) (angles : Angles) (tip tip0 : Vec3)
-    → (joints_from p (tooth_turns p angles) angles tip tip0).xyz ≡ position p (record { first = tooth_forth p.first.mount angles.a0; second = tooth_forth p.second.mount angles.a1 }) tip tip0
+    → (joints_from p (tooth_turns p angles) angles tip tip0).xyz ≡ position p (record { first = tooth_forth p.first.carrier angles.a0; second = of_second p.second still (λ s. tooth_forth s.carrier angles.a1) }) tip tip0
 unfolding joints_from forth_from tooth_turns
-position_forth p angles tip tip0 = rw (swing_forth p.first.mount angles.a0, swing_forth p.second.mount angles.a1)
+position_forth p angles tip tip0 =
+    rw (swing_forth p.first.carrier angles.a0, second_from p.second (λ c. tooth_swing c angles.a1) (λ c. tooth_forth c angles.a1) swing_from (λ c. swing_forth c angles.a1))
 
 -- ---- never -0.0
 toward_sign : (t : Turn) (b : Bool) → T (fits binary64 t.sine) → T (fits binary64 t.cosine) → ((toward t b).sine ≡ neg nought → ⊥) × ((toward t b).cosine ≡ neg nought → ⊥)

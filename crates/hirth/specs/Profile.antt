@@ -11,12 +11,11 @@ use Rattle.refusal.specs.Numbers.{refusal}
 use Rattle.refusal.specs.declared.Cause.{Cause}
 use Rattle.chain.specs.declared.Joints.{Joints}
 use Rattle.chain.specs.declared.Kinematics.{Kinematics}
-use Rattle.chain.specs.declared.Mount.{Mount}
-use Rattle.chain.specs.declared.Mount.TheVariants.{Table, Head, Absent}
+use Rattle.chain.specs.declared.Carrier.{Carrier}
 use Rattle.chain.specs.declared.Prepared.{Prepared}
 use Rattle.chain.specs.declared.ToolPose.{ToolPose}
 use Rattle.chain.specs.declared.Turns.{Turns}
-use Rattle.chain.specs.Forward.{still}
+use Rattle.chain.specs.Forward.{forward_angle, turns_by}
 use Rattle.chain.specs.Prepared.{prepared}
 use Rattle.inverse.specs.declared.Angles.{Angles}
 use Rattle.inverse.specs.declared.Choice.{Choice}
@@ -29,13 +28,11 @@ use Rattle.hirth.specs.Snapping.{snapped_angles}
 use Rattle.hirth.specs.Turning.{tooth_turn}
 
 -- ---- the turns of the teeth, as forward turns its rotaries: a head by its angle, a table by the negated angle
-abbrev pub tooth_swing : Mount → Float → Turn
-tooth_swing Table angle = tooth_turn (Ieee.neg angle)
-tooth_swing Head angle = tooth_turn angle
-tooth_swing Absent angle = still
+abbrev pub tooth_swing : Carrier → Float → Turn
+tooth_swing c angle = tooth_turn (forward_angle c angle)
 
 unfoldable pub tooth_turns : Prepared → Angles → Turns
-tooth_turns p angles = record { first = tooth_swing p.first.mount angles.a0; second = tooth_swing p.second.mount angles.a1 }
+tooth_turns p angles = turns_by tooth_turn p angles.a0 angles.a1
 
 -- ---- a chosen solution on its teeth: the pose that it reaches from position zero, and its joints
 unfoldable pub tooth_pose : Kinematics → Float → Joints → ToolPose

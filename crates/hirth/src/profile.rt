@@ -5,35 +5,17 @@ ghost use Rattle.hirth.specs.Profile as S;
 ghost use Rattle.hirth.specs.Promise as Promise;
 
 use crate::snapping::snapped_angles;
-use crate::turning::{no_turn, tooth_turn};
-use chain::{Joints, Kinematics, Mount, Prepared, ToolPose, Turns, demand};
-use geometry::{Turn, Vec3};
+use crate::turning::tooth_turn;
+use chain::{Joints, Kinematics, Prepared, ToolPose, Turns, demand};
+use geometry::Vec3;
 use inverse::{Angles, Choice};
 use refusal::{Cause, Refusal};
 
-// How forward turns a rotary that stands on a tooth: a head by its angle, a table by the negated angle.
-fn tooth_swing(mount: Mount, angle: f64) -> Turn
-    ensures { result ≡ S.tooth_swing mount angle }
-{
-    match mount {
-        Mount::Table => tooth_turn(-angle),
-        Mount::Head => tooth_turn(angle),
-        Mount::Absent => no_turn(),
-    }
-}
-
 // As chain's `turns_of`, from the table.
-#[tactic(auto, unfolding(crate::specs::Profile::tooth_turns))]
 fn tooth_turns(p: Prepared, angles: Angles) -> Turns
     ensures { result ≡ S.tooth_turns p angles }
 {
-    let outer = p.first;
-    let inner = p.second;
-    let outer_mount = outer.mount;
-    let inner_mount = inner.mount;
-    let first = tooth_swing(outer_mount, angles.a0);
-    let second = tooth_swing(inner_mount, angles.a1);
-    Turns { first, second }
+    chain::turns_by(p, angles.a0, angles.a1, tooth_turn)
 }
 
 #[tactic(auto, unfolding(crate::specs::Profile::close))]
@@ -70,6 +52,7 @@ fn held(
 }
 
 // A chosen solution on its teeth: by the steps of `inverse` for a pair of angles, with the turns of the teeth.
+// The chain is prepared anew, since `choose` prepares it behind its own checks and hands back joints alone.
 fn toothed(
     k: Kinematics,
     pose: ToolPose,

@@ -4,7 +4,7 @@ ghost use Rattle.hirth.specs.Teeth as S;
 
 use crate::Entries;
 
-const TEETH: [u64; 181] = [
+static TEETH: [u64; 181] = [
     0,
     39300822018712,
     78598651127668,

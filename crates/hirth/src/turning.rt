@@ -18,16 +18,12 @@ fn unscaled(entry: u64) -> f64
 fn quartered(q: u64, sine: f64, cosine: f64) -> f64
     ensures { result ≡ S.quartered q sine cosine }
 {
-    if q == 0 {
-        return sine;
+    match q {
+        0 => sine,
+        1 => cosine,
+        2 => -sine,
+        _ => -cosine,
     }
-    if q == 1 {
-        return cosine;
-    }
-    if q == 2 {
-        return -sine;
-    }
-    -cosine
 }
 
 // By h half degrees.
@@ -61,26 +57,17 @@ fn toward(t: Turn, below: bool) -> Turn
     }
 }
 
-pub fn no_turn() -> Turn
-    ensures { result ≡ S.still }
-{
-    Turn {
-        sine: 0.0,
-        cosine: 1.0,
-    }
-}
-
 // By an angle that stands on a tooth. Beyond 45,000 degrees, and for a NaN, it is no turn at all: no solution goes so
 // far (proofs/Chosen.antt).
 pub fn tooth_turn(a: f64) -> Turn
     ensures { result ≡ S.tooth_turn a }
 {
     if a == 0.0 {
-        return no_turn();
+        return Turn::still();
     }
     let x = a * 2.0;
     if !chain::within(x, 90000.0) {
-        return no_turn();
+        return Turn::still();
     }
     let h = std::num::truncating_f64_to_u64(float::size(x));
     let t = half_turns(h);

@@ -24,22 +24,22 @@ use Rattle.geometry.proofs.Range.{Turnable, up_to_turnable}
 use Rattle.geometry.proofs.FitVectors.{dot_fits}
 use Rattle.chain.specs.declared.RotaryLimits.{RotaryLimits}
 use Rattle.chain.specs.declared.Kinematics.{Kinematics}
-use Rattle.chain.specs.declared.Mount.{Mount}
-use Rattle.chain.specs.declared.Mount.TheVariants.{Table, Head, Absent}
+use Rattle.chain.specs.declared.Carrier.{Carrier}
+use Rattle.chain.specs.declared.Carrier.TheVariants.{Table, Head}
+use Rattle.chain.specs.declared.Spin.{Spin}
 use Rattle.chain.specs.declared.Prepared.{Prepared}
 use Rattle.chain.specs.Prepared.{prepared}
 use Rattle.chain.proofs.NeverFallback.{within_up_to}
 use Rattle.inverse.specs.Subproblem.{gap_tolerance, shortest, square_part, fixed_at, turned_by, between_parts, sp1, both_solved, solved_pair, on_circle, sine_beside, both_points, in_frame, about_circle, through_point, beside, sp2, apply_angle}
-use Rattle.inverse.specs.AxisMap.{minus_one, map_of, axis_map_of, placed, hint_x, hint_y, angles}
+use Rattle.inverse.specs.AxisMap.{minus_one, map_of, inner_of, axis_map_of, placed, hint_x, hint_y, angles}
 use Rattle.inverse.specs.Orientation.{sign_of, one_angle, one_joint_angles, sigma_of, shared_turn, by_total, parallel_angles, raw_of, two_joint_angles, counted_raw, orientation_angles}
 use Rattle.inverse.specs.Wraps.{one_turn, two_turns, allowed, keep_allowed, angle_candidates, has, angles_of, add_pair, add_row, add_rows, add_raw, expand_wraps, second_travel}
 use Rattle.inverse.specs.Inverse.{raw_angles, wrapped, hint_within}
 use Rattle.inverse.specs.declared.Angles.{Angles}
 use Rattle.inverse.specs.declared.AxisMap.{AxisMap}
-use Rattle.inverse.specs.declared.RawPair.{RawPair}
+use Rattle.inverse.specs.UpToTwo.{RawPair, SolvedPairs}
 use Rattle.inverse.specs.declared.SolvedAngle.{SolvedAngle}
 use Rattle.inverse.specs.declared.SolvedAngle.TheVariants.{Fixed, Free}
-use Rattle.inverse.specs.declared.SolvedPairs.{SolvedPairs}
 
 -- ---- subproblem 1: a fixed angle is at most 180 degrees
 abbrev pub FixedAngle : SolvedAngle → Type 0
@@ -123,23 +123,19 @@ minus_up_to = up_to_neg 1 one one_small
 abbrev pub Signs : AxisMap → Type 0
 Signs m = UpTo 1 m.x_sign × UpTo 1 m.y_sign
 
-map_signs : (a b : Mount) (v w : Vec3) → Signs (map_of a b v w)
+map_signs : (a b : Carrier) (v w : Vec3) → Signs (map_of a b v w)
 map_signs Table Table v w = (minus_up_to, minus_up_to)
 map_signs Table Head v w = (minus_up_to, one_small)
-map_signs Table Absent v w = (minus_up_to, one_small)
 map_signs Head Table v w = (minus_up_to, one_small)
 map_signs Head Head v w = (one_small, one_small)
-map_signs Head Absent v w = (one_small, one_small)
-map_signs Absent b v w = (one_small, one_small)
 
 pub axis_signs : (p : Prepared) → Signs (axis_map_of p)
 unfolding axis_map_of
-axis_signs p = map_signs p.first.mount p.second.mount p.first.axis p.second.axis
+axis_signs p = map_signs p.first.carrier (inner_of p).carrier p.first.axis (inner_of p).axis
 
-mount_sign : (m : Mount) → UpTo 1 (sign_of m)
-mount_sign Table = minus_up_to
-mount_sign Head = one_small
-mount_sign Absent = one_small
+carrier_sign : (m : Carrier) → UpTo 1 (sign_of m)
+carrier_sign Table = minus_up_to
+carrier_sign Head = one_small
 
 -- ---- the raw angles
 abbrev pub PairUpTo : ℕ → Angles → Type 0
@@ -207,17 +203,16 @@ module _ (m : AxisMap) (S : Signs m) (hint : Angles) (H : PairUpTo 36000 hint) w
       chosen RawsUpTo (Ieee.lt (norm (cross m.wa m.wb)) shortest) _ _ (λ e. (total_within (sp1 m.wa spindle target) (sp1_within m.wa spindle target), tt))
       (λ e. (pair_raw (sp2 m.wa m.wb spindle target).first s.0, pair_raw (sp2 m.wa m.wb spindle target).second s.1))
 
-by_count : (m : Mount) (single both : RawPair) → RawsUpTo single → RawsUpTo both → RawsUpTo (counted_raw m single both)
-by_count Absent single both A B = A
-by_count Table single both A B = B
-by_count Head single both A B = B
+by_count : (o : Option Spin) (single both : RawPair) → RawsUpTo single → RawsUpTo both → RawsUpTo (counted_raw o single both)
+by_count None single both A B = A
+by_count (Some s) single both A B = B
 
 -- the raw angles of any target: within 36,180
 pub raw_within : (p : Prepared) (target : Vec3) (hint : Angles) → PairUpTo 36000 hint → RawsUpTo (orientation_angles p target hint)
 unfolding orientation_angles one_joint_angles
 raw_within p target hint H =
-    by_count p.second.mount _ _
-    (one_within (sp1 p.first.axis p.spindle target) (sign_of p.first.mount) hint (sp1_within p.first.axis p.spindle target) (mount_sign p.first.mount) H, tt)
+    by_count p.second _ _
+    (one_within (sp1 p.first.axis p.spindle target) (sign_of p.first.carrier) hint (sp1_within p.first.axis p.spindle target) (carrier_sign p.first.carrier) H, tt)
     (two_within (axis_map_of p) (axis_signs p) hint H p.spindle target)
 
 -- ---- whole turns

@@ -9,6 +9,7 @@ use lib.Ieee as Ieee
 use lib.Ieee.{Float, binary64, neg}
 use lib.Ieee.Fits.{mul-fits}
 use Rattle.std.specs.Prelude.{None, Ok, Option, Some}
+use Rattle.std.specs.Option.{unwrap_or}
 use Rattle.float.specs.Helpers.{nought, one, size_of, clamp_unit, to_degrees}
 use Rattle.float.proofs.Bounded as B
 use Rattle.float.proofs.Bounded.{Small, finite_small, small_neg, one_small, clamped_quotient, product_apart}
@@ -22,8 +23,9 @@ use Rattle.geometry.proofs.FitVectors.{FitVec, dot_fits}
 use Rattle.geometry.proofs.Lengths.{dot_nn, norm_small}
 use Rattle.geometry.proofs.Quotients.{long_enough, not_short, over_length}
 use Rattle.geometry.proofs.UnitSize.{unit_small}
-use Rattle.chain.specs.declared.Mount.{Mount}
-use Rattle.chain.specs.declared.Mount.TheVariants.{Table, Head, Absent}
+use Rattle.chain.specs.declared.Carrier.{Carrier}
+use Rattle.chain.specs.declared.Carrier.TheVariants.{Table, Head}
+use Rattle.chain.specs.declared.Spin.{Spin}
 use Rattle.chain.specs.declared.Prepared.{Prepared}
 use Rattle.geometry.specs.Direction.{unit_direction}
 use Rattle.chain.specs.declared.Kinematics.{Kinematics}
@@ -32,14 +34,13 @@ use Rattle.chain.specs.Prepared.{prepared}
 use Rattle.chain.proofs.UnitAxes.{FitAxes, SecondUnit, UnitChain, chain_units}
 use Rattle.inverse.specs.declared.SolvedAngle.{SolvedAngle}
 use Rattle.inverse.specs.Inverse.{raw_angles}
-use Rattle.inverse.specs.Subproblem.{gap_tolerance, shortest, square_part, fixed_at, turned_by, between_parts, sp1, both_solved, solved_pair, on_circle, one_pair, sine_beside, both_points, in_frame, about_circle, through_point, beside, sp2}
-use Rattle.inverse.specs.AxisMap.{map_of, axis_map_of}
-use Rattle.inverse.specs.Orientation.{sign_of, one_angle, one_joint_angles, by_total, parallel_angles, raw_pair, two_joint_angles, counted_raw, one_raw, orientation_angles}
+use Rattle.inverse.specs.Subproblem.{gap_tolerance, shortest, square_part, fixed_at, turned_by, between_parts, sp1, both_solved, solved_pair, on_circle, sine_beside, both_points, in_frame, about_circle, through_point, beside, sp2}
+use Rattle.inverse.specs.AxisMap.{map_of, inner_of, axis_map_of}
+use Rattle.inverse.specs.Orientation.{sign_of, one_angle, one_joint_angles, by_total, parallel_angles, raw_pair, two_joint_angles, counted_raw, orientation_angles}
 use Rattle.inverse.specs.declared.Angles.{Angles}
 use Rattle.inverse.specs.declared.AxisMap.{AxisMap}
-use Rattle.inverse.specs.declared.RawPair.{RawPair}
+use Rattle.inverse.specs.UpToTwo.{RawPair, SolvedPairs, first_only}
 use Rattle.inverse.specs.declared.SolvedAngle.TheVariants.{Fixed, Free}
-use Rattle.inverse.specs.declared.SolvedPairs.{SolvedPairs}
 
 cond_same : {A : Type 0} (b : Bool) (x x' y y' : A) → (b ≡ true → x ≡ x') → (b ≡ false → y ≡ y') → cond b x y ≡ cond b x' y'
 cond_same true x x' y y' f g = f refl
@@ -86,7 +87,7 @@ pair_with s wa wb p q c = both_solved (s wb p c) (s wa c q)
 unfoldable pub points_with : Sub1 → Vec3 → Vec3 → Vec3 → Vec3 → Vec3 → Vec3 → Float → Float → Float → SolvedPairs
 points_with s wa wb p q e1 e2 cosine qa rho =
     cond (Ieee.le (sine_beside cosine) shortest)
-    (one_pair (pair_with s wa wb p q (on_circle wa qa rho e1 e2 cosine (times one (sine_beside cosine)))))
+    (first_only (pair_with s wa wb p q (on_circle wa qa rho e1 e2 cosine (times one (sine_beside cosine)))))
     (record {
       first = pair_with s wa wb p q (on_circle wa qa rho e1 e2 cosine (times one (sine_beside cosine)));
       second = pair_with s wa wb p q (on_circle wa qa rho e1 e2 cosine (times (Ieee.neg one) (sine_beside cosine)));
@@ -94,21 +95,21 @@ points_with s wa wb p q e1 e2 cosine qa rho =
 
 unfoldable pub frame_with : Sub1 → Vec3 → Vec3 → Vec3 → Vec3 → Vec3 → Float → Float → Float → SolvedPairs
 frame_with s wa wb p q e1 cosine qa rho =
-    cond (Ieee.le (norm (cross wa e1)) shortest) (one_pair None)
+    cond (Ieee.le (norm (cross wa e1)) shortest) (first_only None)
     (points_with s wa wb p q e1 (scale (cross wa e1) (over one (norm (cross wa e1)))) cosine qa rho)
 
 unfoldable pub circle_with : Sub1 → Vec3 → Vec3 → Vec3 → Vec3 → Vec3 → Float → Float → Float → SolvedPairs
 circle_with s wa wb p q e1 cosine qa rho =
-    cond (Ieee.lt (plus one gap_tolerance) (size_of cosine)) (one_pair None) (frame_with s wa wb p q e1 (clamp_unit cosine) qa rho)
+    cond (Ieee.lt (plus one gap_tolerance) (size_of cosine)) (first_only None) (frame_with s wa wb p q e1 (clamp_unit cosine) qa rho)
 
 unfoldable pub through_with : Sub1 → Vec3 → Vec3 → Vec3 → Vec3 → Vec3 → Float → Float → Float → Float → SolvedPairs
 through_with s wa wb p q wbPerp wbLen d qa rho =
-    cond (Ieee.eq rho nought) (one_pair (pair_with s wa wb p q (scale wa qa)))
+    cond (Ieee.eq rho nought) (first_only (pair_with s wa wb p q (scale wa qa)))
     (circle_with s wa wb p q (scale wbPerp (over one wbLen)) (over (minus (dot wb p) (times d qa)) (times rho wbLen)) qa rho)
 
 unfoldable pub sp2_with : Sub1 → Vec3 → Vec3 → Vec3 → Vec3 → SolvedPairs
 sp2_with s wa wb p q =
-    cond (Ieee.le (norm (square_part wb wa (dot wa wb))) shortest) (one_pair None)
+    cond (Ieee.le (norm (square_part wb wa (dot wa wb))) shortest) (first_only None)
     (through_with s wa wb p q (square_part wb wa (dot wa wb)) (norm (square_part wb wa (dot wa wb))) (dot wa wb) (dot wa q) (norm (square_part q wa (dot wa q))))
 
 pub sp2_is : (wa wb p q : Vec3) → sp2_with sp1 wa wb p q ≡ sp2 wa wb p q
@@ -141,7 +142,7 @@ module _ (wa wb p q : Vec3) (WA : SmallVec 1 wa) (Wb : SmallVec 1 wb) (P : Small
       let s = sine_small cosine C in
       let up = pair_same (on_circle wa qa rho e1 e2 cosine (times one (sine_beside cosine))) (circle_small qa rho e1 e2 cosine _ A R E F C (B.times 0 100 101 one (sine_beside cosine) (lit≤ tt) (lit≤ tt) one_small s)) in
       let down = pair_same (on_circle wa qa rho e1 e2 cosine (times (Ieee.neg one) (sine_beside cosine))) (circle_small qa rho e1 e2 cosine _ A R E F C (B.times 0 100 101 (neg one) (sine_beside cosine) (lit≤ tt) (lit≤ tt) (small_neg 0 one one_small) s)) in
-      cond_same (Ieee.le (sine_beside cosine) shortest) _ _ _ _ (λ h. ap one_pair up)
+      cond_same (Ieee.le (sine_beside cosine) shortest) _ _ _ _ (λ h. ap first_only up)
       (λ h. ap (λ (x : Option (SolvedAngle × SolvedAngle)). record { first = x; second = pair_with sp1 wa wb p q (on_circle wa qa rho e1 e2 cosine (times (Ieee.neg one) (sine_beside cosine))) }) up
       ∙ ap (λ (y : Option (SolvedAngle × SolvedAngle)). record { first = pair_with plain_sp1 wa wb p q (on_circle wa qa rho e1 e2 cosine (times one (sine_beside cosine))); second = y }) down)
 
@@ -189,7 +190,7 @@ module _ (wa wb p q : Vec3) (WA : SmallVec 1 wa) (Wb : SmallVec 1 wb) (P : Small
       let b = small_dot 1 1 7 wb p (lit≤ tt) (lit≤ tt) Wb P in
       let n = B.minus 7 15 15 17 (dot wb p) (times (dot wa wb) (dot wa q)) (lit≤ tt) (lit≤ tt) (lit≤ tt) (lit≤ tt) b (B.times 7 7 15 (dot wa wb) (dot wa q) (lit≤ tt) (lit≤ tt) d a) in
       let z = B.times 100 100 201 (norm side) (norm perp) (lit≤ tt) (lit≤ tt) r l in
-      cond_same (Ieee.eq (norm side) nought) _ _ _ _ (λ e. ap one_pair (pair_same (scale wa (dot wa q)) (vec_scale 1 7 300 wa (dot wa q) (lit≤ tt) (lit≤ tt) WA a)))
+      cond_same (Ieee.eq (norm side) nought) _ _ _ _ (λ e. ap first_only (pair_same (scale wa (dot wa q)) (vec_scale 1 7 300 wa (dot wa q) (lit≤ tt) (lit≤ tt) WA a)))
       (λ e. circle_same (scale perp (over one (norm perp))) _ (dot wa q) (norm side)
       (vec_scale 11 31 43 perp _ (lit≤ tt) (lit≤ tt) perp_small (over_length 0 100 31 one (norm perp) (lit≤ tt) (lit≤ tt) one_small l far))
       (clamped_quotient 17 _ _ z.s z.v n z.is (product_apart 100 100 201 (norm side) (norm perp) r l z (length_apart e r) (long_enough 100 (norm perp) l far)))
@@ -205,49 +206,45 @@ module _ (wa wb p q : Vec3) (WA : SmallVec 1 wa) (Wb : SmallVec 1 wb) (P : Small
 -- ---- the raw angles over any subproblem 1
 unfoldable pub two_with : Sub1 → AxisMap → Vec3 → Vec3 → Angles → RawPair
 two_with s m spindle target hint =
-    cond (Ieee.lt (norm (cross m.wa m.wb)) shortest) (one_raw (by_total m hint (s m.wa spindle target)))
+    cond (Ieee.lt (norm (cross m.wa m.wb)) shortest) (first_only (by_total m hint (s m.wa spindle target)))
     (raw_pair m (sp2_with s m.wa m.wb spindle target) hint)
 
 unfoldable pub orientation_with : Sub1 → Prepared → Vec3 → Angles → RawPair
 orientation_with s p target hint =
-    counted_raw p.second.mount (one_raw (one_angle (s p.first.axis p.spindle target) (sign_of p.first.mount) hint)) (two_with s (axis_map_of p) p.spindle target hint)
+    counted_raw p.second (first_only (one_angle (s p.first.axis p.spindle target) (sign_of p.first.carrier) hint)) (two_with s (axis_map_of p) p.spindle target hint)
 
 pub orientation_is : (p : Prepared) (target : Vec3) (hint : Angles) → orientation_with sp1 p target hint ≡ orientation_angles p target hint
 unfolding orientation_with two_with orientation_angles one_joint_angles two_joint_angles parallel_angles
 orientation_is p target hint =
-    ap (λ (s : SolvedPairs). counted_raw p.second.mount (one_raw (one_angle (sp1 p.first.axis p.spindle target) (sign_of p.first.mount) hint)) (cond (Ieee.lt (norm (cross (axis_map_of p).wa (axis_map_of p).wb)) shortest) (one_raw (by_total (axis_map_of p) hint (sp1 (axis_map_of p).wa p.spindle target))) (raw_pair (axis_map_of p) s hint)))
+    ap (λ (s : SolvedPairs). counted_raw p.second (first_only (one_angle (sp1 p.first.axis p.spindle target) (sign_of p.first.carrier) hint)) (cond (Ieee.lt (norm (cross (axis_map_of p).wa (axis_map_of p).wb)) shortest) (first_only (by_total (axis_map_of p) hint (sp1 (axis_map_of p).wa p.spindle target))) (raw_pair (axis_map_of p) s hint)))
     (sp2_is (axis_map_of p).wa (axis_map_of p).wb p.spindle target)
 
-map_units : (a b : Mount) (v w : Vec3) → SmallVec 1 v → SmallVec 1 w → SmallVec 1 (map_of a b v w).wa × SmallVec 1 (map_of a b v w).wb
+map_units : (a b : Carrier) (v w : Vec3) → SmallVec 1 v → SmallVec 1 w → SmallVec 1 (map_of a b v w).wa × SmallVec 1 (map_of a b v w).wb
 map_units Table Table v w D W = (W, D)
 map_units Table Head v w D W = (D, W)
-map_units Table Absent v w D W = (D, W)
 map_units Head Table v w D W = (W, D)
 map_units Head Head v w D W = (D, W)
-map_units Head Absent v w D W = (D, W)
-map_units Absent b v w D W = (D, W)
 
-pub axis_units : (p : Prepared) → SmallVec 1 p.first.axis → SmallVec 1 p.second.axis → SmallVec 1 (axis_map_of p).wa × SmallVec 1 (axis_map_of p).wb
+pub axis_units : (p : Prepared) → SmallVec 1 p.first.axis → SmallVec 1 (inner_of p).axis → SmallVec 1 (axis_map_of p).wa × SmallVec 1 (axis_map_of p).wb
 unfolding axis_map_of
-axis_units p A D = map_units p.first.mount p.second.mount p.first.axis p.second.axis A D
+axis_units p A D = map_units p.first.carrier (inner_of p).carrier p.first.axis (inner_of p).axis A D
 
 two_same : (m : AxisMap) (spindle target : Vec3) (hint : Angles) → SmallVec 1 m.wa → SmallVec 1 m.wb → SmallVec 1 spindle → SmallVec 1 target → two_with sp1 m spindle target hint ≡ two_with plain_sp1 m spindle target hint
 unfolding two_with
 two_same m spindle target hint WA Wb S T =
     cond_same (Ieee.lt (norm (cross m.wa m.wb)) shortest) _ _ _ _
-    (λ h. ap (λ (s : Option SolvedAngle). one_raw (by_total m hint s)) (sp1_plain m.wa spindle target WA (vec_raise 1 300 spindle (lit≤ tt) S) (vec_raise 1 300 target (lit≤ tt) T)))
+    (λ h. ap (λ (s : Option SolvedAngle). first_only (by_total m hint s)) (sp1_plain m.wa spindle target WA (vec_raise 1 300 spindle (lit≤ tt) S) (vec_raise 1 300 target (lit≤ tt) T)))
     (λ h. ap (λ (s : SolvedPairs). raw_pair m s hint) (sp2_same m.wa m.wb spindle target WA Wb S T))
 
-by_count : (m : Mount) (v : Vec3) (single single' both both' : RawPair) → SecondUnit m v → single ≡ single' → (SmallVec 1 v → both ≡ both') → counted_raw m single both ≡ counted_raw m single' both'
-by_count Absent v single single' both both' S f g = f
-by_count Table v single single' both both' S f g = g S.small
-by_count Head v single single' both both' S f g = g S.small
+by_count : (o : Option Spin) (first : Spin) (single single' both both' : RawPair) → SecondUnit o → single ≡ single' → (SmallVec 1 (unwrap_or o first).axis → both ≡ both') → counted_raw o single both ≡ counted_raw o single' both'
+by_count None first single single' both both' S f g = f
+by_count (Some s) first single single' both both' S f g = g S.small
 
 orientation_same : (p : Prepared) (target : Vec3) (hint : Angles) → UnitChain p → SmallVec 1 target → orientation_with sp1 p target hint ≡ orientation_with plain_sp1 p target hint
 unfolding orientation_with
 orientation_same p target hint C T =
-    by_count p.second.mount p.second.axis _ _ _ _ C.second
-    (ap (λ (s : Option SolvedAngle). one_raw (one_angle s (sign_of p.first.mount) hint)) (sp1_plain p.first.axis p.spindle target C.first.small (vec_raise 1 300 p.spindle (lit≤ tt) C.spindle.small) (vec_raise 1 300 target (lit≤ tt) T)))
+    by_count p.second p.first _ _ _ _ C.second
+    (ap (λ (s : Option SolvedAngle). first_only (one_angle s (sign_of p.first.carrier) hint)) (sp1_plain p.first.axis p.spindle target C.first.small (vec_raise 1 300 p.spindle (lit≤ tt) C.spindle.small) (vec_raise 1 300 target (lit≤ tt) T)))
     (λ S. let m = axis_units p C.first.small S in two_same (axis_map_of p) p.spindle target hint m.0 m.1 C.spindle.small T)
 
 -- the raw angles of a unit target: `fixed_at OutOfRange` is not among what they are made of

@@ -15,7 +15,7 @@ use Rattle.chain.specs.declared.RotaryLimits.{RotaryLimits}
 use Rattle.chain.specs.declared.Joints.{Joints}
 use Rattle.chain.specs.declared.Prepared.{Prepared}
 use Rattle.inverse.specs.declared.Angles.{Angles}
-use Rattle.inverse.specs.declared.RawPair.{RawPair}
+use Rattle.inverse.specs.UpToTwo.{RawPair}
 use Rattle.inverse.specs.Wraps.{allowed, keep_allowed, angle_candidates, angles_of, has, add_pair, add_row, add_rows, add_raw, expand_wraps}
 use Rattle.inverse.specs.Solutions.{insert, sorted}
 use Rattle.inverse.specs.Inverse.{pose_at, misses, joints_at, reached, solutions}

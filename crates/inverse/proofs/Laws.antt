@@ -22,7 +22,7 @@ use Rattle.chain.proofs.Passing.{refused_passed, then_passed, demand_passed}
 use Rattle.chain.specs.Forward.{forward_core, turns_of, reach}
 use Rattle.chain.specs.Prepared.{prepared}
 use Rattle.inverse.specs.declared.Angles.{Angles}
-use Rattle.inverse.specs.declared.RawPair.{RawPair}
+use Rattle.inverse.specs.UpToTwo.{RawPair}
 use Rattle.inverse.specs.Wraps.{allowed, second_travel}
 use Rattle.inverse.specs.Solutions.{precedes, origin, filled}
 use Rattle.inverse.specs.Inverse.{pose_at, misses, joints_at, solutions, wrapped, raw_angles, some_raw, positions_finite, solved_check, answered, solved, toward, unless_refused, inverse_check, inverse, checked_in, solutions_in}

@@ -5,6 +5,7 @@ pub mod Insertion
 pub mod Taking
 pub mod Order
 pub mod Kept
+pub mod Compared
 pub mod Counting
 pub mod Laws
 pub mod Examples

@@ -33,7 +33,7 @@ use Rattle.inverse.specs.Inverse.{pose_at, misses, reached, solutions, Answers, 
 use Rattle.inverse.specs.Choose.{hint_of, chosen, choose}
 use Rattle.inverse.specs.declared.Angles.{Angles}
 use Rattle.inverse.specs.declared.Choice.{Choice}
-use Rattle.inverse.specs.declared.RawPair.{RawPair}
+use Rattle.inverse.specs.UpToTwo.{RawPair}
 use Rattle.inverse.proofs.AngleBounds.{PairUpTo, BothTurnable, both_turnable, wrapped_within}
 use Rattle.inverse.proofs.AfterChecks.{FitAngles, chain_passed, axis_unit, checked_hint}
 use Rattle.inverse.proofs.Arctangents.{plain_sp1, orientation_with, raw_plain}

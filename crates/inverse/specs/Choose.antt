@@ -14,7 +14,7 @@ use Rattle.inverse.specs.Wraps.{angles_of}
 use Rattle.inverse.specs.Solutions.{nowhere}
 use Rattle.inverse.specs.Inverse.{Answers, inverse}
 use Rattle.inverse.specs.declared.Angles.{Angles}
-use Rattle.inverse.specs.declared.Best.{Best}
+use Rattle.inverse.specs.declared.Ranked.{Ranked}
 use Rattle.inverse.specs.declared.Choice.{Choice}
 use Rattle.inverse.specs.declared.Choice.TheVariants.{Nearest, FirstPositive, FirstNegative}
 
@@ -26,10 +26,10 @@ first l = get_or l 0 nowhere
 unfoldable pub distance_to : Joints → Angles → Float
 distance_to j preferred = maximum (size_of (minus j.a0 preferred.a0)) (size_of (minus j.a1 preferred.a1))
 
-unfoldable pub best_of : Angles → Joints → Best
+unfoldable pub best_of : Angles → Joints → Ranked
 best_of preferred j = record { joints = j; distance = distance_to j preferred }
 
-unfoldable pub nearer : Angles → Best → Joints → Best
+unfoldable pub nearer : Angles → Ranked → Joints → Ranked
 nearer preferred best j = cond (Ieee.le best.distance (best_of preferred j).distance) best (best_of preferred j)
 
 unfoldable pub nearest : List Joints → Angles → Joints

@@ -24,7 +24,7 @@ use Rattle.inverse.specs.Orientation.{orientation_angles}
 use Rattle.inverse.specs.Wraps.{expand_wraps, second_travel}
 use Rattle.inverse.specs.Solutions.{origin, insert, filled, sorted}
 use Rattle.inverse.specs.declared.Angles.{Angles}
-use Rattle.inverse.specs.declared.RawPair.{RawPair}
+use Rattle.inverse.specs.UpToTwo.{RawPair}
 
 -- ---- one pair of angles
 -- the pose at position zero
@@ -43,6 +43,11 @@ pose_from p turns tool = forward_core p turns origin tool
 
 unfoldable pub joints_from : Prepared → Turns → Angles → Vec3 → Vec3 → Joints
 joints_from p turns angles tip tip0 = record { xyz = position p (forth_from p turns) tip tip0; a0 = angles.a0; a1 = angles.a1 }
+
+-- those of a pair that puts the spindle on the target
+unfoldable pub reached_at : Prepared → Vec3 → Vec3 → Float → Angles → Option Joints
+reached_at p target tip tool angles =
+    cond (misses (pose_at p angles tool).axis target) None (Some (joints_at p angles tip (pose_at p angles tool).tip))
 
 -- ---- the pairs that reach the target, in order
 unfoldable pub reached : Prepared → Vec3 → Vec3 → Float → List Angles → List Joints

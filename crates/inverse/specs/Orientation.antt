@@ -3,35 +3,30 @@ use Rattle.std.specs.Prelude.{cond, Float, None, Option, Some}
 use Rattle.std.specs.Float.Ieee as Ieee
 use Rattle.float.specs.Helpers.{nought, one}
 use Rattle.geometry.specs.declared.Vec3.{Vec3}
-use Rattle.geometry.specs.Vector.{dot, cross, norm, minus, times}
-use Rattle.chain.specs.declared.Mount.{Mount}
-use Rattle.chain.specs.declared.Mount.TheVariants.{Table, Head, Absent}
+use Rattle.geometry.specs.Vector.{dot, minus, times}
+use Rattle.chain.specs.declared.Carrier.{Carrier}
+use Rattle.chain.specs.declared.Carrier.TheVariants.{Table, Head}
 use Rattle.chain.specs.declared.Spin.{Spin}
 use Rattle.chain.specs.declared.Prepared.{Prepared}
 use Rattle.inverse.specs.declared.SolvedAngle.{SolvedAngle}
-use Rattle.inverse.specs.Subproblem.{shortest, sp1, sp2, apply_angle}
-use Rattle.inverse.specs.AxisMap.{minus_one, axis_map_of, placed, hint_x, hint_y, angles}
+use Rattle.inverse.specs.Subproblem.{sp1, sp2, apply_angle}
+use Rattle.inverse.specs.AxisMap.{minus_one, axis_map_of, parallel_axes, placed, hint_x, hint_y, angles}
 use Rattle.inverse.specs.declared.SolvedAngle.TheVariants.{Fixed, Free}
-use Rattle.inverse.specs.declared.SolvedPairs.{SolvedPairs}
+use Rattle.inverse.specs.UpToTwo.{SolvedPairs, RawPair, first_only}
 use Rattle.inverse.specs.declared.Angles.{Angles}
-use Rattle.inverse.specs.declared.RawPair.{RawPair}
 use Rattle.inverse.specs.declared.AxisMap.{AxisMap}
 
-abbrev pub one_raw : Option Angles → RawPair
-one_raw raw = record { first = raw; second = None }
-
 -- ---- one rotary
-abbrev pub sign_of : Mount → Float
+abbrev pub sign_of : Carrier → Float
 sign_of Table = minus_one
 sign_of Head = one
-sign_of Absent = one
 
 abbrev pub one_angle : Option SolvedAngle → Float → Angles → Option Angles
 one_angle (Some solved) sign hint = Some (record { a0 = apply_angle solved sign hint.a0; a1 = nought })
 one_angle None sign hint = None
 
 unfoldable pub one_joint_angles : Spin → Vec3 → Vec3 → Angles → Option Angles
-one_joint_angles s spindle target hint = one_angle (sp1 s.axis spindle target) (sign_of s.mount) hint
+one_joint_angles s spindle target hint = one_angle (sp1 s.axis spindle target) (sign_of s.carrier) hint
 
 -- ---- two parallel rotaries
 unfoldable pub sigma_of : AxisMap → Float
@@ -61,14 +56,13 @@ raw_pair m pairs hint = record { first = raw_of m pairs.first hint; second = raw
 
 unfoldable pub two_joint_angles : AxisMap → Vec3 → Vec3 → Angles → RawPair
 two_joint_angles m spindle target hint =
-    cond (Ieee.lt (norm (cross m.wa m.wb)) shortest) (one_raw (parallel_angles m spindle target hint))
+    cond (parallel_axes m.wa m.wb) (first_only (parallel_angles m spindle target hint))
     (raw_pair m (sp2 m.wa m.wb spindle target) hint)
 
-abbrev pub counted_raw : Mount → RawPair → RawPair → RawPair
-counted_raw Absent single both = single
-counted_raw Table single both = both
-counted_raw Head single both = both
+abbrev pub counted_raw : Option Spin → RawPair → RawPair → RawPair
+counted_raw None single both = single
+counted_raw (Some _) single both = both
 
 unfoldable pub orientation_angles : Prepared → Vec3 → Angles → RawPair
 orientation_angles p target hint =
-    counted_raw p.second.mount (one_raw (one_joint_angles p.first p.spindle target hint)) (two_joint_angles (axis_map_of p) p.spindle target hint)
+    counted_raw p.second (first_only (one_joint_angles p.first p.spindle target hint)) (two_joint_angles (axis_map_of p) p.spindle target hint)

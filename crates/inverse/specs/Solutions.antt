@@ -3,7 +3,9 @@ use Rattle.std.specs.Prelude.{Bool, true, false, cond, List, [], ◌∷◌}
 use Rattle.lists.specs.Fold.{fold}
 use Rattle.arrayvec.specs.ArrayVec.{ArrayVec}
 use Rattle.float.specs.Helpers.{nought, size_of}
-use Rattle.float.specs.TotalOrder.{before}
+use Rattle.std.specs.declared.cmp.Ordering.{Ordering}
+use Rattle.std.specs.Ordering.{ordering_then}
+use Rattle.float.specs.TotalOrder.{before, total_compare}
 use Rattle.geometry.specs.declared.Vec3.{Vec3}
 use Rattle.geometry.specs.Vector.{vector}
 use Rattle.chain.specs.declared.Joints.{Joints}
@@ -19,6 +21,11 @@ precedes j k =
     (cond (before j.a0 k.a0) true
     (cond (before k.a0 j.a0) false
     (before j.a1 k.a1))))
+
+-- the same as one comparison after another
+unfoldable pub compare : Joints → Joints → Ordering
+compare j k =
+    ordering_then (ordering_then (total_compare (size_of j.a0) (size_of k.a0)) (total_compare j.a0 k.a0)) (total_compare j.a1 k.a1)
 
 unfoldable pub insert : List Joints → Joints → List Joints
 insert [] j = j ∷ []

@@ -10,7 +10,7 @@ use Rattle.geometry.specs.declared.Vec3.{Vec3}
 use Rattle.geometry.specs.Vector.{add, sub, scale, dot, cross, norm, plus, minus, times, over}
 use Rattle.inverse.specs.declared.SolvedAngle.{SolvedAngle}
 use Rattle.inverse.specs.declared.SolvedAngle.TheVariants.{Fixed, Free}
-use Rattle.inverse.specs.declared.SolvedPairs.{SolvedPairs}
+use Rattle.inverse.specs.UpToTwo.{SolvedPairs, first_only}
 
 -- 1e-7 and 1e-9
 abbrev pub gap_tolerance : Float
@@ -53,9 +53,6 @@ solved_pair wa wb p q c = both_solved (sp1 wb p c) (sp1 wa c q)
 unfoldable pub on_circle : Vec3 → Float → Float → Vec3 → Vec3 → Float → Float → Vec3
 on_circle wa qa rho e1 e2 cosine sine = add (scale wa qa) (scale (add (scale e1 cosine) (scale e2 sine)) rho)
 
-abbrev pub one_pair : Option (SolvedAngle × SolvedAngle) → SolvedPairs
-one_pair pair = record { first = pair; second = None }
-
 -- the root of (1 - c) (1 + c), not below zero
 unfoldable pub sine_beside : Float → Float
 sine_beside c = root (maximum (times (minus one c) (plus one c)) nought)
@@ -63,7 +60,7 @@ sine_beside c = root (maximum (times (minus one c) (plus one c)) nought)
 unfoldable pub both_points : Vec3 → Vec3 → Vec3 → Vec3 → Vec3 → Vec3 → Float → Float → Float → SolvedPairs
 both_points wa wb p q e1 e2 cosine qa rho =
     cond (Ieee.le (sine_beside cosine) shortest)
-    (one_pair (solved_pair wa wb p q (on_circle wa qa rho e1 e2 cosine (times one (sine_beside cosine)))))
+    (first_only (solved_pair wa wb p q (on_circle wa qa rho e1 e2 cosine (times one (sine_beside cosine)))))
     (record {
       first = solved_pair wa wb p q (on_circle wa qa rho e1 e2 cosine (times one (sine_beside cosine)));
       second = solved_pair wa wb p q (on_circle wa qa rho e1 e2 cosine (times (Ieee.neg one) (sine_beside cosine)));
@@ -72,16 +69,16 @@ both_points wa wb p q e1 e2 cosine qa rho =
 -- e1 along the square part of wb, e2 square to it and to wa
 unfoldable pub in_frame : Vec3 → Vec3 → Vec3 → Vec3 → Vec3 → Float → Float → Float → SolvedPairs
 in_frame wa wb p q e1 cosine qa rho =
-    cond (Ieee.le (norm (cross wa e1)) shortest) (one_pair None)
+    cond (Ieee.le (norm (cross wa e1)) shortest) (first_only None)
     (both_points wa wb p q e1 (scale (cross wa e1) (over one (norm (cross wa e1)))) cosine qa rho)
 
 unfoldable pub about_circle : Vec3 → Vec3 → Vec3 → Vec3 → Vec3 → Float → Float → Float → SolvedPairs
 about_circle wa wb p q e1 cosine qa rho =
-    cond (Ieee.lt (plus one gap_tolerance) (size_of cosine)) (one_pair None) (in_frame wa wb p q e1 (clamp_unit cosine) qa rho)
+    cond (Ieee.lt (plus one gap_tolerance) (size_of cosine)) (first_only None) (in_frame wa wb p q e1 (clamp_unit cosine) qa rho)
 
 unfoldable pub through_point : Vec3 → Vec3 → Vec3 → Vec3 → Vec3 → Float → Float → Float → Float → SolvedPairs
 through_point wa wb p q wbPerp wbLen d qa rho =
-    cond (Ieee.eq rho nought) (one_pair (solved_pair wa wb p q (scale wa qa)))
+    cond (Ieee.eq rho nought) (first_only (solved_pair wa wb p q (scale wa qa)))
     (about_circle wa wb p q (scale wbPerp (over one wbLen)) (over (minus (dot wb p) (times d qa)) (times rho wbLen)) qa rho)
 
 unfoldable pub beside : Vec3 → Vec3 → Vec3 → Vec3 → Vec3 → Float → Float → Float → SolvedPairs
@@ -89,7 +86,7 @@ beside wa wb p q wbPerp wbLen d qa = through_point wa wb p q wbPerp wbLen d qa (
 
 unfoldable pub sp2 : Vec3 → Vec3 → Vec3 → Vec3 → SolvedPairs
 sp2 wa wb p q =
-    cond (Ieee.le (norm (square_part wb wa (dot wa wb))) shortest) (one_pair None)
+    cond (Ieee.le (norm (square_part wb wa (dot wa wb))) shortest) (first_only None)
     (beside wa wb p q (square_part wb wa (dot wa wb)) (norm (square_part wb wa (dot wa wb))) (dot wa wb) (dot wa q))
 
 -- ---- a joint's angle

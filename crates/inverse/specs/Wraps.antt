@@ -8,11 +8,12 @@ use Rattle.lists.specs.Fold.{fold}
 use Rattle.float.specs.Helpers.{nought, size_of}
 use Rattle.geometry.specs.Vector.{plus, minus}
 use Rattle.chain.specs.declared.RotaryLimits.{RotaryLimits}
+use Rattle.chain.specs.declared.Joints.{Joints}
 use Rattle.chain.specs.declared.Kinematics.{Kinematics}
 use Rattle.chain.specs.Check.{contains}
 use Rattle.inverse.specs.Subproblem.{shortest}
 use Rattle.inverse.specs.declared.Angles.{Angles}
-use Rattle.inverse.specs.declared.RawPair.{RawPair}
+use Rattle.inverse.specs.UpToTwo.{RawPair}
 
 -- ---- one angle
 abbrev pub half_turn : Float
@@ -50,6 +51,10 @@ has pair l = list_any (λ have. same_angles have pair) l
 
 abbrev pub angles_of : Float → Float → Angles
 angles_of a0 a1 = record { a0 = a0; a1 = a1 }
+
+-- those of a joint set
+abbrev pub angles_in : Joints → Angles
+angles_in j = angles_of j.a0 j.a1
 
 unfoldable pub add_pair : Float → List Angles → Float → List Angles
 add_pair a0 l a1 = cond (has (angles_of a0 a1) l) l (l ++ (angles_of a0 a1 ∷ []))

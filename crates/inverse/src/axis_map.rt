@@ -5,8 +5,8 @@ ghost use Rattle.inverse.specs.AxisMap as S;
 
 use crate::subproblem::apply_angle;
 use crate::{Angles, AxisMap, SolvedAngle};
-use chain::{Mount, Prepared};
-use geometry::Vec3;
+use chain::{Carrier, Prepared};
+use geometry::{Vec3, cross, norm};
 
 fn two_tables(outer: Vec3, inner: Vec3) -> AxisMap
     ensures { result ≡ S.two_tables outer inner }
@@ -48,31 +48,31 @@ fn table_and_head(table: Vec3, head: Vec3, swapped: bool) -> AxisMap
     }
 }
 
-// Of two rotaries; with the second absent, which has no such equation, as of a head.
+// Of two rotaries. A chain of one has no such equation: its rotary stands for both, and no one asks.
+#[tactic(auto, unfolding(crate::specs::AxisMap::axis_map_of))]
 pub fn axis_map_of(p: Prepared) -> AxisMap
     ensures { result ≡ S.axis_map_of p }
 {
     let first = p.first;
-    let second = p.second;
-    let first_mount = first.mount;
-    let second_mount = second.mount;
-    match first_mount {
-        Mount::Table => match second_mount {
-            Mount::Table => two_tables(first.axis, second.axis),
-            Mount::Head => table_and_head(first.axis, second.axis, false),
-            Mount::Absent => table_and_head(first.axis, second.axis, false),
-        },
-        Mount::Head => match second_mount {
-            Mount::Table => table_and_head(second.axis, first.axis, true),
-            Mount::Head => two_heads(first.axis, second.axis),
-            Mount::Absent => two_heads(first.axis, second.axis),
-        },
-        Mount::Absent => two_heads(first.axis, second.axis),
+    let second = p.second.unwrap_or(first);
+    match (first.carrier, second.carrier) {
+        (Carrier::Table, Carrier::Table) => two_tables(first.axis, second.axis),
+        (Carrier::Table, Carrier::Head) => table_and_head(first.axis, second.axis, false),
+        (Carrier::Head, Carrier::Table) => table_and_head(second.axis, first.axis, true),
+        (Carrier::Head, Carrier::Head) => two_heads(first.axis, second.axis),
     }
+}
+
+// Whether the cross product of two unit axes is shorter than 1e-9.
+pub fn parallel_axes(wa: Vec3, wb: Vec3) -> bool
+    ensures { result ≡ S.parallel_axes wa wb }
+{
+    norm(cross(wa, wb)) < 1e-9
 }
 
 impl AxisMap {
     // The two numbers of x and y in the order of the rotaries.
+    #[tactic(auto, unfolding(crate::specs::AxisMap::placed))]
     pub fn placed(self, x: f64, y: f64) -> Angles
         ensures { result ≡ S.placed self x y }
     {
@@ -82,30 +82,23 @@ impl AxisMap {
         Angles { a0: x, a1: y }
     }
 
-    // The hint for x, and for y.
-    pub fn hint_x(self, hint: Angles) -> f64
-        ensures { result ≡ S.hint_x self hint }
+    // The hints for x and for y.
+    pub fn hints(self, hint: Angles) -> (f64, f64)
+        ensures { result ≡ (S.hint_x self hint, S.hint_y self hint) }
     {
         if self.swapped {
-            return hint.a1;
+            return (hint.a1, hint.a0);
         }
-        hint.a0
+        (hint.a0, hint.a1)
     }
 
-    pub fn hint_y(self, hint: Angles) -> f64
-        ensures { result ≡ S.hint_y self hint }
-    {
-        if self.swapped {
-            return hint.a0;
-        }
-        hint.a1
-    }
-
+    #[tactic(auto, unfolding(crate::specs::AxisMap::angles))]
     pub fn angles(self, x: SolvedAngle, y: SolvedAngle, hint: Angles) -> Angles
         ensures { result ≡ S.angles self x y hint }
     {
-        let of_x = apply_angle(x, self.x_sign, self.hint_x(hint));
-        let of_y = apply_angle(y, self.y_sign, self.hint_y(hint));
+        let (for_x, for_y) = self.hints(hint);
+        let of_x = apply_angle(x, self.x_sign, for_x);
+        let of_y = apply_angle(y, self.y_sign, for_y);
         self.placed(of_x, of_y)
     }
 }

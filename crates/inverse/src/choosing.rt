@@ -4,22 +4,12 @@ ghost use Rattle.std.specs.List.{find};
 ghost use Rattle.inverse.specs.Choose as S;
 
 use crate::inverse_map::inverse;
-use crate::{Angles, Best, Choice};
+use crate::{Angles, Choice, Ranked};
 use chain::{Joints, Kinematics, ToolPose};
 use refusal::Refusal;
 
-// The hint that goes with a choice: the two angles asked for, else zero.
-fn hint_of(choice: Choice) -> Angles
-    ensures { result ≡ S.hint_of choice }
-{
-    match choice {
-        Choice::Nearest(a0, a1) => Angles { a0, a1 },
-        Choice::FirstPositive => Angles { a0: 0.0, a1: 0.0 },
-        Choice::FirstNegative => Angles { a0: 0.0, a1: 0.0 },
-    }
-}
-
 // The larger of the two angles' differences, on a chain of one rotary too.
+#[tactic(auto, unfolding(crate::specs::Choose::distance_to))]
 fn distance_to(j: Joints, preferred: Angles) -> f64
     ensures { result ≡ S.distance_to j preferred }
 {
@@ -28,18 +18,20 @@ fn distance_to(j: Joints, preferred: Angles) -> f64
     float::maximum(first, second)
 }
 
-fn best_of(preferred: Angles, j: Joints) -> Best
+#[tactic(auto, unfolding(crate::specs::Choose::best_of))]
+fn best_of(preferred: Angles, j: Joints) -> Ranked
     ensures { result ≡ S.best_of preferred j }
 {
-    let distance = distance_to(j, preferred);
-    Best {
+    Ranked {
         joints: j,
-        distance,
+        distance: distance_to(j, preferred),
     }
 }
 
-// Of two that tie the earlier.
-fn nearer(preferred: Angles, best: Best, j: Joints) -> Best
+// Of two that tie the earlier. By a fold, and not by `min_by`: that wants an order, and `<=` is none where a distance
+// is a NaN.
+#[tactic(auto, unfolding(crate::specs::Choose::nearer))]
+fn nearer(preferred: Angles, best: Ranked, j: Joints) -> Ranked
     ensures { result ≡ S.nearer preferred best j }
 {
     let other = best_of(preferred, j);
@@ -67,38 +59,50 @@ fn nearest(solutions: &[Joints], preferred: Angles) -> Joints
     best.joints
 }
 
-// Whether the first angle is at least -1e-9, or at most 1e-9.
-fn suits(choice: Choice, j: Joints) -> bool
-    ensures { result ≡ S.suits choice j }
-{
-    match choice {
-        Choice::Nearest(_a0, _a1) => true,
-        Choice::FirstPositive => -1e-9 <= j.a0,
-        Choice::FirstNegative => j.a0 <= 1e-9,
+impl Choice {
+    // The hint that goes with it: the two angles asked for, else zero.
+    fn hint(self) -> Angles
+        ensures { result ≡ S.hint_of self }
+    {
+        match self {
+            Choice::Nearest(a0, a1) => Angles { a0, a1 },
+            Choice::FirstPositive | Choice::FirstNegative => Angles::default(),
+        }
     }
-}
 
-fn first_that_suits(solutions: &[Joints], choice: Choice) -> Option<Joints>
-    ensures { result ≡ find (S.suits choice) solutions.now }
-{
-    solutions.iter().copied().find(|j| suits(choice, *j))
-}
+    // Whether the first angle is at least -1e-9, or at most 1e-9.
+    fn suits(self, j: Joints) -> bool
+        ensures { result ≡ S.suits self j }
+    {
+        match self {
+            Choice::Nearest(_a0, _a1) => true,
+            Choice::FirstPositive => -1e-9 <= j.a0,
+            Choice::FirstNegative => j.a0 <= 1e-9,
+        }
+    }
 
-// The first that suits, else the first of all.
-#[tactic(auto, unfolding(crate::specs::Choose::first_suiting))]
-fn first_suiting(solutions: &[Joints], choice: Choice) -> Joints
-    ensures { result ≡ S.first_suiting solutions.now choice }
-{
-    first_that_suits(solutions, choice).unwrap_or(first_of(solutions))
-}
+    fn first_that_suits(self, solutions: &[Joints]) -> Option<Joints>
+        ensures { result ≡ find (S.suits self) solutions.now }
+    {
+        solutions.iter().copied().find(|j| self.suits(*j))
+    }
 
-fn picked(solutions: &[Joints], choice: Choice) -> Joints
-    ensures { result ≡ S.picked solutions.now choice }
-{
-    match choice {
-        Choice::Nearest(a0, a1) => nearest(solutions, Angles { a0, a1 }),
-        Choice::FirstPositive => first_suiting(solutions, choice),
-        Choice::FirstNegative => first_suiting(solutions, choice),
+    // The first that suits, else the first of all.
+    #[tactic(auto, unfolding(crate::specs::Choose::first_suiting))]
+    fn first_suiting(self, solutions: &[Joints]) -> Joints
+        ensures { result ≡ S.first_suiting solutions.now self }
+    {
+        self.first_that_suits(solutions)
+            .unwrap_or(first_of(solutions))
+    }
+
+    fn pick(self, solutions: &[Joints]) -> Joints
+        ensures { result ≡ S.picked solutions.now self }
+    {
+        match self {
+            Choice::Nearest(a0, a1) => nearest(solutions, Angles { a0, a1 }),
+            Choice::FirstPositive | Choice::FirstNegative => self.first_suiting(solutions),
+        }
     }
 }
 
@@ -112,6 +116,6 @@ pub fn choose(
 ) -> Result<Joints, Refusal>
     ensures { result ≡ S.choose k pose tool_length choice }
 {
-    let solutions = inverse(k, pose, tool_length, hint_of(choice))?;
-    Ok(picked(&solutions, choice))
+    let solutions = inverse(k, pose, tool_length, choice.hint())?;
+    Ok(choice.pick(&solutions))
 }

@@ -12,16 +12,13 @@ use chain::{Joints, Kinematics, Prepared, ToolPose, Turns, demand, within};
 use geometry::Vec3;
 use refusal::{Cause, Refusal};
 
-// The pose at position zero, by the turns of the rotaries.
+// The pose at position zero, by the turns of the rotaries. `p` and `turns` are no struct: this and `joints_from` hand
+// both on to crate chain, which takes them apart, as `chain::forward_core(*self.p, self.turns, ..)`.
+#[tactic(auto, unfolding(crate::specs::Inverse::pose_from))]
 pub fn pose_from(p: Prepared, turns: Turns, tool_length: f64) -> ToolPose
     ensures { result ≡ S.pose_from p turns tool_length }
 {
-    let origin = Vec3 {
-        x: 0.0,
-        y: 0.0,
-        z: 0.0,
-    };
-    chain::forward_core(p, turns, origin, tool_length)
+    chain::forward_core(p, turns, Vec3::default(), tool_length)
 }
 
 // More than 1e-9 off. A square up to 2^-60 needs no root: its root is at most 2^-30, below 1e-9.
@@ -38,6 +35,7 @@ pub fn misses(axis: Vec3, target: Vec3) -> bool
 
 // The angles with the position that puts the tip from `tip0` on `tip`. `turns` are those of the rotaries at these
 // angles.
+#[tactic(auto, unfolding(crate::specs::Inverse::joints_from))]
 pub fn joints_from(p: Prepared, turns: Turns, angles: Angles, tip: Vec3, tip0: Vec3) -> Joints
     ensures { result ≡ S.joints_from p turns angles tip tip0 }
 {
@@ -50,39 +48,36 @@ pub fn joints_from(p: Prepared, turns: Turns, angles: Angles, tip: Vec3, tip0: V
     }
 }
 
-// The solution of one more pair, where it puts the spindle on the target axis.
-fn take_in(
+// The joints of a pair of angles, where they put the spindle on the target axis. The target and the tip are two, since
+// crate path has them in an `Aim`. A guard and no `then`: `(!misses(..)).then(|| joints_from(p, turns, ..))` is the
+// same test turned round.
+pub fn reached_at(
     p: Prepared,
     target: Vec3,
     tip: Vec3,
     tool_length: f64,
-    solutions: &mut Solutions,
     angles: Angles,
-)
-    requires { length solutions.old.items < 50 }
-    ensures list { solutions.new.items ≡ S.taken_in p target tip tool_length solutions.old.items angles }
-    ensures count { length solutions.new.items ≤ length solutions.old.items + 1 }
+) -> Option<Joints>
+    ensures { result ≡ S.reached_at p target tip tool_length angles }
 {
     let turns = chain::turns_of(p, angles.a0, angles.a1);
     let pose0 = pose_from(p, turns, tool_length);
-    if !misses(pose0.axis, target) {
-        insert(solutions, joints_from(p, turns, angles, tip, pose0.tip));
+    if misses(pose0.axis, target) {
+        return None;
     }
+    Some(joints_from(p, turns, angles, tip, pose0.tip))
 }
 
-fn all_solutions(
-    p: Prepared,
-    target: Vec3,
-    tip: Vec3,
-    tool_length: f64,
-    pairs: &[Angles],
-) -> Solutions
+// Each pair in turn. The pose's axis is a unit vector, here and below.
+fn all_solutions(p: Prepared, pose: ToolPose, tool_length: f64, pairs: &[Angles]) -> Solutions
     requires { length pairs.now ≤ 50 }
-    ensures { result.items ≡ S.solutions p target tip tool_length pairs.now }
+    ensures { result.items ≡ S.solutions p pose.axis pose.tip tool_length pairs.now }
 {
     let mut solutions = ArrayVec::new();
     for angles in pairs {
-        take_in(p, target, tip, tool_length, &mut solutions, *angles);
+        if let Some(j) = reached_at(p, pose.axis, pose.tip, tool_length, *angles) {
+            insert(&mut solutions, j);
+        }
     }
     solutions
 }
@@ -112,21 +107,20 @@ fn solved_check(raw: RawPair, pairs: &[Angles], solutions: &[Joints]) -> Result<
     demand(0 < solutions.len(), Cause::NotReachable, 0)
 }
 
-// The answers of a checked chain. `target` is a unit vector.
+// The answers of a checked chain.
 #[tactic(auto, unfolding(crate::specs::Inverse::solved, crate::specs::Inverse::raw_angles, crate::specs::Inverse::wrapped))]
 fn solved(
     k: Kinematics,
-    target: Vec3,
-    tip: Vec3,
+    pose: ToolPose,
     tool_length: f64,
     hint: Angles,
 ) -> Result<Solutions, Refusal>
-    ensures { result ≡ S.solved k target tip tool_length hint }
+    ensures { result ≡ S.solved k pose.axis pose.tip tool_length hint }
 {
     let p = chain::prepare(k);
-    let raw = orientation_angles(p, target, hint);
+    let raw = orientation_angles(p, pose.axis, hint);
     let pairs = expand_wraps(k.first.limits, second_travel(k), raw);
-    let solutions = all_solutions(p, target, tip, tool_length, &pairs);
+    let solutions = all_solutions(p, pose, tool_length, &pairs);
     solved_check(raw, &pairs, &solutions)?;
     Ok(solutions)
 }
@@ -138,11 +132,11 @@ fn hint_finite(hint: Angles) -> bool
     float::finite(hint.a0) && float::finite(hint.a1)
 }
 
-#[tactic(auto, unfolding(crate::specs::Inverse::hint_within))]
-fn hint_within(hint: Angles) -> bool
-    ensures { result ≡ S.hint_within hint }
+// Neither is past 36,000 degrees.
+pub fn angles_within(angles: Angles) -> bool
+    ensures { result ≡ S.hint_within angles }
 {
-    within(hint.a0, 36000.0) && within(hint.a1, 36000.0)
+    within(angles.a0, 36000.0) && within(angles.a1, 36000.0)
 }
 
 #[tactic(auto, unfolding(crate::specs::Inverse::inverse_sizes))]
@@ -151,7 +145,7 @@ fn inverse_sizes(k: Kinematics, tip: Vec3, tool_length: f64, hint: Angles) -> bo
 {
     within(tool_length, 100000.0)
         && chain::all_within(tip, 100000.0)
-        && hint_within(hint)
+        && angles_within(hint)
         && chain::chain_within(k)
 }
 
@@ -176,7 +170,8 @@ fn inverse_check(
     )
 }
 
-// Every joint set that reaches the pose, in order, or the first refusal.
+// Every joint set that reaches the pose, in order, or the first refusal. The four parameters are C's, as those of
+// `choose`: the caller has them apart, and `inverse(Asked { k, pose, tool_length, hint })` would be no shorter.
 #[tactic(auto, unfolding(crate::specs::Inverse::inverse))]
 pub fn inverse(
     k: Kinematics,
@@ -188,8 +183,8 @@ pub fn inverse(
     ensures count { IfOk result (λ s. length s.items ≤ 50) }
 {
     inverse_check(k, pose, tool_length, hint)?;
-    let Some(target) = geometry::unit_direction(pose.axis) else {
+    let Some(axis) = geometry::unit_direction(pose.axis) else {
         return Err(Refusal::new(Cause::ToolAxisZero, 0));
     };
-    solved(k, target, pose.tip, tool_length, hint)
+    solved(k, ToolPose { axis, ..pose }, tool_length, hint)
 }

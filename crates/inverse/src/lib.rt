@@ -2,6 +2,10 @@
 // turns within the limits, the position for each, and one choice among them.
 #![tactic(auto)]
 
+ghost use Rattle.std.specs.Prelude.{◌≡◌};
+ghost use Rattle.inverse.specs.UpToTwo as S;
+ghost use Rattle.inverse.specs.Wraps.{angles_in};
+
 mod axis_map;
 mod choosing;
 mod inverse_map;
@@ -11,12 +15,12 @@ mod subproblem;
 mod wraps;
 
 use arrayvec::ArrayVec;
-pub use axis_map::axis_map_of;
+pub use axis_map::{axis_map_of, parallel_axes};
 use chain::Joints;
 pub use choosing::choose;
 use geometry::Vec3;
-pub use inverse_map::{inverse, joints_from, misses, pose_from};
-pub use ordering::precedes;
+pub use inverse_map::{angles_within, inverse, joints_from, misses, pose_from, reached_at};
+pub use ordering::{compare, precedes};
 pub use orientation::orientation_angles;
 pub use subproblem::{apply_angle, sp1, sp2};
 pub use wraps::same_angles;
@@ -29,12 +33,29 @@ pub enum SolvedAngle {
     Free,
 }
 
-// What sp2 answers: at most two.
+// At most two, each from a branch of its own: two places and no vector, since the definitions name them, and crate
+// path asks for the one and for the other (`closest_alone`), in a vector `pairs.first().copied()` and
+// `pairs.get(1).copied()`.
 #[derive(Clone, Copy)]
-pub struct SolvedPairs {
-    pub first: Option<(SolvedAngle, SolvedAngle)>,
-    pub second: Option<(SolvedAngle, SolvedAngle)>,
+pub struct UpToTwo<T> {
+    pub first: Option<T>,
+    pub second: Option<T>,
 }
+
+impl<T> UpToTwo<T> {
+    // Of the first branch alone.
+    fn first_only(first: Option<T>) -> UpToTwo<T>
+        ensures { result ≡ S.first_only first }
+    {
+        UpToTwo {
+            first,
+            second: None,
+        }
+    }
+}
+
+// What sp2 answers.
+pub type SolvedPairs = UpToTwo<(SolvedAngle, SolvedAngle)>;
 
 // An angle for each rotary, in degrees.
 #[derive(Clone, Copy, Default)]
@@ -43,16 +64,20 @@ pub struct Angles {
     pub a1: f64,
 }
 
-// The solutions of the orientation before whole turns and limits: at most two, each from a branch of its own, so two
-// fields and no vector.
-#[derive(Clone, Copy)]
-pub struct RawPair {
-    pub first: Option<Angles>,
-    pub second: Option<Angles>,
+impl From<Joints> for Angles {
+    ghost from_gives = { λ j angles. angles ≡ angles_in j };
+
+    fn from(j: Joints) -> Angles {
+        Angles { a0: j.a0, a1: j.a1 }
+    }
 }
 
+// The solutions of the orientation before whole turns and limits.
+pub type RawPair = UpToTwo<Angles>;
+
 // R(wa, x) R(wb, y) in the orientation equation, and how x and y are the joints' angles: x belongs to the second rotary
-// where `swapped`, and each is its joint's angle times its sign.
+// where `swapped`, and each is its joint's angle times its sign. The two flags stay `bool`: each is asked by an `if`,
+// or compared with another flag, and `match map.order { Order::Swapped => .., Order::Kept => .. }` would be no plainer.
 #[derive(Clone, Copy)]
 pub struct AxisMap {
     pub wa: Vec3,
@@ -73,7 +98,7 @@ pub type Pairs = ArrayVec<Angles, 50>;
 pub type Solutions = ArrayVec<Joints, 50>;
 
 // Which solution `choose` takes: the nearest to two angles, or the first whose first angle is not below or not above
-// zero.
+// zero. No closure: a caller in C says it by a number, so that the ways are these three.
 #[derive(Clone, Copy)]
 pub enum Choice {
     Nearest(f64, f64),
@@ -81,9 +106,9 @@ pub enum Choice {
     FirstNegative,
 }
 
-// A joint set and how far its angles are from those asked for.
+// A joint set and how far its angles are from others: those asked for, or those before them on a path.
 #[derive(Clone, Copy)]
-pub struct Best {
+pub struct Ranked {
     pub joints: Joints,
     pub distance: f64,
 }

@@ -6,32 +6,22 @@ ghost use Rattle.inverse.specs.Solutions as S;
 
 use crate::Solutions;
 use chain::Joints;
+use std::cmp::Ordering;
 
-// Whether the first angle of j stands before that of k by its size.
-fn smaller(j: Joints, k: Joints) -> bool
-    ensures { result ≡ S.smaller j k }
+// How j and k stand to one another.
+pub fn compare(j: Joints, k: Joints) -> Ordering
+    ensures { result ≡ S.compare j k }
 {
-    float::precedes(float::size(j.a0), float::size(k.a0))
+    float::total_cmp(float::size(j.a0), float::size(k.a0))
+        .then_with(|| float::total_cmp(j.a0, k.a0))
+        .then_with(|| float::total_cmp(j.a1, k.a1))
 }
 
 // Whether j stands before k.
-// Not by `total_cmp(..).then_with(..)`: what `then_with` promises has one case for each Ordering, and needs a law here.
 pub fn precedes(j: Joints, k: Joints) -> bool
     ensures { result ≡ S.precedes j k }
 {
-    if smaller(j, k) {
-        return true;
-    }
-    if smaller(k, j) {
-        return false;
-    }
-    if float::precedes(j.a0, k.a0) {
-        return true;
-    }
-    if float::precedes(k.a0, j.a0) {
-        return false;
-    }
-    float::precedes(j.a1, k.a1)
+    compare(j, k).is_lt()
 }
 
 // How many stand before the first that j precedes.

@@ -3,10 +3,12 @@
 ghost use Rattle.std.specs.Prelude.{◌≡◌};
 ghost use Rattle.inverse.specs.Subproblem as S;
 
-use crate::{SolvedAngle, SolvedPairs};
+use crate::{SolvedAngle, SolvedPairs, UpToTwo};
 use geometry::{Vec3, cross, dot, norm};
 
-// The part of v that is square to w, of which `along` is the part along it.
+// The part of v that is square to w, of which `along` is the part along it. Crate path has one that finds `along`
+// itself: `inverse::square_part(v, w, dot(w, v))` would be no plainer there than `v - w * dot(w, v)`.
+#[tactic(auto, unfolding(crate::specs::Subproblem::square_part))]
 fn square_part(v: Vec3, w: Vec3, along: f64) -> Vec3
     ensures { result ≡ S.square_part v w along }
 {
@@ -26,6 +28,7 @@ fn turned_by(w: Vec3, u_perp: Vec3, v_perp: Vec3) -> Option<SolvedAngle>
 }
 
 // The angle between two parts that are square to w.
+#[tactic(auto, unfolding(crate::specs::Subproblem::between_parts))]
 fn between_parts(w: Vec3, u_perp: Vec3, v_perp: Vec3) -> Option<SolvedAngle>
     ensures { result ≡ S.between_parts w u_perp v_perp }
 {
@@ -41,7 +44,6 @@ fn between_parts(w: Vec3, u_perp: Vec3, v_perp: Vec3) -> Option<SolvedAngle>
 }
 
 // The angle in degrees about the unit vector w that takes u to v.
-#[tactic(auto, unfolding(crate::specs::Subproblem::sp1))]
 pub fn sp1(w: Vec3, u: Vec3, v: Vec3) -> Option<SolvedAngle>
     ensures { result ≡ S.sp1 w u v }
 {
@@ -83,6 +85,7 @@ impl Equation {
     }
 
     // The point of the circle in the direction (cosine, sine) of the frame e1, e2.
+    #[tactic(auto, unfolding(crate::specs::Subproblem::on_circle))]
     fn on_circle(self, circle: Circle, e2: Vec3, cosine: f64, sine: f64) -> Vec3
         ensures { result ≡ S.on_circle self.wa circle.qa circle.rho circle.e1 e2 cosine sine }
     {
@@ -98,48 +101,52 @@ impl Equation {
         let above = self.on_circle(circle, e2, cosine, 1.0 * sine);
         let first = self.solved_pair(above);
         if sine <= 1e-9 {
-            return one_pair(first);
+            return UpToTwo::first_only(first);
         }
         let below = self.on_circle(circle, e2, cosine, -1.0 * sine);
         let second = self.solved_pair(below);
-        SolvedPairs { first, second }
+        UpToTwo { first, second }
     }
 
     // With e2, square to e1 and to wa.
+    #[tactic(auto, unfolding(crate::specs::Subproblem::in_frame))]
     fn in_frame(self, circle: Circle, cosine: f64) -> SolvedPairs
         ensures { result ≡ S.in_frame self.wa self.wb self.p self.q circle.e1 cosine circle.qa circle.rho }
     {
         let side = cross(self.wa, circle.e1);
         let side_len = norm(side);
         if side_len <= 1e-9 {
-            return one_pair(None);
+            return UpToTwo::first_only(None);
         }
         let e2 = side * (1.0 / side_len);
         self.both_points(circle, e2, cosine)
     }
 
     // With the cosine of the angle between the square parts of wb and of c.
+    #[tactic(auto, unfolding(crate::specs::Subproblem::about_circle))]
     fn about_circle(self, circle: Circle, cosine: f64) -> SolvedPairs
         ensures { result ≡ S.about_circle self.wa self.wb self.p self.q circle.e1 cosine circle.qa circle.rho }
     {
         if 1.0 + 1e-7 < float::size(cosine) {
-            return one_pair(None);
+            return UpToTwo::first_only(None);
         }
         self.in_frame(circle, float::clamp_unit(cosine))
     }
 
     // With the square part of wb and its length, at the distance rho of q from wa.
+    #[tactic(auto, unfolding(crate::specs::Subproblem::through_point))]
     fn through_point(self, wb_perp: Vec3, wb_len: f64, d: f64, qa: f64, rho: f64) -> SolvedPairs
         ensures { result ≡ S.through_point self.wa self.wb self.p self.q wb_perp wb_len d qa rho }
     {
         if rho == 0.0 {
-            return one_pair(self.solved_pair(self.wa * qa));
+            return UpToTwo::first_only(self.solved_pair(self.wa * qa));
         }
         let cosine = (dot(self.wb, self.p) - d * qa) / (rho * wb_len);
         let e1 = wb_perp * (1.0 / wb_len);
         self.about_circle(Circle { qa, rho, e1 }, cosine)
     }
 
+    #[tactic(auto, unfolding(crate::specs::Subproblem::beside))]
     fn beside(self, wb_perp: Vec3, wb_len: f64, d: f64, qa: f64) -> SolvedPairs
         ensures { result ≡ S.beside self.wa self.wb self.p self.q wb_perp wb_len d qa }
     {
@@ -148,15 +155,7 @@ impl Equation {
     }
 }
 
-fn one_pair(pair: Option<(SolvedAngle, SolvedAngle)>) -> SolvedPairs
-    ensures { result ≡ S.one_pair pair }
-{
-    SolvedPairs {
-        first: pair,
-        second: None,
-    }
-}
-
+#[tactic(auto, unfolding(crate::specs::Subproblem::sine_beside))]
 fn sine_of(cosine: f64) -> f64
     ensures { result ≡ S.sine_beside cosine }
 {
@@ -164,6 +163,7 @@ fn sine_of(cosine: f64) -> f64
 }
 
 // The angles with R(wa, x) R(wb, y) p = q, for unit vectors wa and wb that are not parallel.
+#[tactic(auto, unfolding(crate::specs::Subproblem::sp2))]
 pub fn sp2(wa: Vec3, wb: Vec3, p: Vec3, q: Vec3) -> SolvedPairs
     ensures { result ≡ S.sp2 wa wb p q }
 {
@@ -171,7 +171,7 @@ pub fn sp2(wa: Vec3, wb: Vec3, p: Vec3, q: Vec3) -> SolvedPairs
     let wb_perp = square_part(wb, wa, d);
     let wb_len = norm(wb_perp);
     if wb_len <= 1e-9 {
-        return one_pair(None);
+        return UpToTwo::first_only(None);
     }
     Equation { wa, wb, p, q }.beside(wb_perp, wb_len, d, dot(wa, q))
 }

@@ -15,7 +15,8 @@ fn principal(angle: f64) -> bool
     -180.0 < angle && angle <= 180.0
 }
 
-// Within the limits, or principal where there are none.
+// Within the limits, or principal where there are none. No `map_or_else`: it would have the two arms in closures, the
+// one for `None` first. As `permits` of crate path but for the last test, and a line there says why both stand.
 fn allowed(travel: Option<RotaryLimits>, angle: f64) -> bool
     ensures { result ≡ S.allowed travel angle }
 {
@@ -62,7 +63,8 @@ fn has(pairs: &[Angles], pair: Angles) -> bool
     pairs.iter().any(|have| same_angles(*have, pair))
 }
 
-// A pair of which there is none the same yet.
+// A pair of which there is none the same yet. The room in `pairs` is a clause and no type of its own: here and in the
+// three functions below each asks for another room, that for one pair, for 5, for 25.
 #[tactic(auto, unfolding(crate::specs::Wraps::add_pair))]
 fn add_pair(a0: f64, pairs: &mut Pairs, a1: f64)
     requires { length pairs.old.items < 50 }
@@ -118,15 +120,11 @@ fn add_raw(
 }
 
 // A second rotary that the chain has not is without limits.
+#[tactic(auto, unfolding(crate::specs::Wraps::second_travel))]
 pub fn second_travel(k: Kinematics) -> Option<RotaryLimits>
     ensures { result ≡ S.second_travel k }
 {
-    let second = k.second;
-    let limits = second.limits;
-    if k.count == 2 {
-        return limits;
-    }
-    None
+    k.second_rotary()?.limits
 }
 
 #[tactic(auto, unfolding(crate::specs::Wraps::expand_wraps))]

@@ -13,7 +13,8 @@ use Rattle.chain.specs.Checked.{Checked}
 use Rattle.chain.specs.declared.Kinematics.{Kinematics}
 use Rattle.chain.specs.declared.Joints.{Joints}
 use Rattle.chain.specs.Check.{within, most_turned, joints_finite, joints_within}
-use Rattle.job.specs.Cable.{joint_sets, angle_of, rest_of, wind_of, turns_of, turns_within, larger, most_turns, survey, cable_check, cable_unless, cable_of, cable_number}
+use Rattle.chain.specs.Angles.{angle_of}
+use Rattle.job.specs.Cable.{joint_sets, rest_of, wind_of, turns_of, turns_within, larger, most_turns, survey, cable_check, cable_unless, cable_of, cable_number}
 use Rattle.job.specs.declared.Survey.{Survey}
 use Rattle.job.proofs.CableLaws.{angle_within, cable_checked}
 use Rattle.job.proofs.Wound.{wind_within}

@@ -13,7 +13,8 @@ use Rattle.chain.specs.declared.Kinematics.{Kinematics}
 use Rattle.chain.specs.declared.Joints.{Joints}
 use Rattle.chain.specs.Check.{demand, one_or_two, chain_check, rotary_within, chain_within, all_within, within, joints_finite, joints_within, longest, farthest, most_turned}
 use Rattle.chain.proofs.Passing.{refused_passed, then_passed, demand_passed}
-use Rattle.job.specs.Cable.{joint_sets, angle_of, rest_of, wind_of, Turned, turns_of, turns_within, larger, most_turns, survey, cable_sizes, cable_check, cable_unless, cable_of, cable_number, Some, Largest}
+use Rattle.chain.specs.Angles.{angle_of}
+use Rattle.job.specs.Cable.{joint_sets, rest_of, wind_of, Turned, turns_of, turns_within, larger, most_turns, survey, cable_sizes, cable_check, cable_unless, cable_of, cable_number, Some, Largest}
 use Rattle.job.specs.declared.Survey.{Survey}
 use Rattle.job.proofs.Turns.{turned_of, turned_most}
 use Rattle.job.proofs.Wound.{wind_within}

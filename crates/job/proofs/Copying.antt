@@ -1,5 +1,5 @@
 -- The loop that copies numbers out of bytes: one record for its invariant, and a law each for its start, its step and its end.
-use Rattle.std.proofs.Common.{◌≡◌, ℕ, zero, suc, ◌+◌, ◌*◌, ◌<◌, ◌≤◌, List, [], ◌∷◌, ◌++◌, length, take, drop, set, sym, refl, ap, ◌∙◌, add-one, arith, length-append, length-drop, length-set, take-append-drop, drop-drop, take_at, drop-set-lt}
+use Rattle.std.proofs.Common.{◌≡◌, ℕ, zero, suc, ◌+◌, ◌*◌, ◌<◌, ◌≤◌, List, [], ◌∷◌, ◌++◌, length, take, drop, set, sym, refl, ap, ◌∙◌, add-one, arith, length-append, length-drop, length-set, length-take-le, take-append-drop, drop-drop, take_at, drop-set-lt}
 use lib.Ieee.{Float}
 use Rattle.lists.specs.Padding.{padded}
 use Rattle.lists.proofs.Fold.{pushed}
@@ -53,11 +53,13 @@ module _ {bytes : List ℕ} {at n : ℕ} {o : List Float} where
       let back : drop n l ≡ drop n o = rw z at f.back in
       sym (take-append-drop n l) ∙ rw (front, back)
 
--- then +0.0 to the end
-pub copied_cleared : (n : ℕ) (bytes : List ℕ) (at : ℕ) (o l l' : List Float) → n ≤ length o → l ≡ numbers_at n bytes at ++ drop n o → l' ≡ padded (length l) nought (take n l)
-    → l' ≡ padded (length o) nought (numbers_at n bytes at)
-copied_cleared n bytes at o l l' h e f =
+-- the first n numbers of an output, then +0.0 to its end
+pub copied_cleared : (n : ℕ) (bytes : List ℕ) (at : ℕ) (o front l : List Float) → n ≤ length o → front ≡ numbers_at (length (take n o)) bytes at
+    → l ≡ padded (length (front ++ drop n o)) nought (take n (front ++ drop n o)) → l ≡ padded (length o) nought (numbers_at n bytes at)
+copied_cleared n bytes at o front l h e f =
     let k = length_numbers n bytes at in
-    let t : take n l ≡ numbers_at n bytes at = rw e (take_at (numbers_at n bytes at) (drop n o) n k) in
-    let s : length l ≡ length o = rw (e, length-append, length-drop, k) (omega arith) in
+    let m = length-take-le n o h in
+    let g : front ≡ numbers_at n bytes at = rw m at e in
+    let t : take n (front ++ drop n o) ≡ numbers_at n bytes at = rw g (take_at (numbers_at n bytes at) (drop n o) n k) in
+    let s : length (front ++ drop n o) ≡ length o = rw (g, length-append, length-drop, k) (omega arith) in
     f ∙ rw (t, s)

@@ -68,11 +68,11 @@ placed_passed w bytes p count e =
     }
 
 -- what the chain's reader needs
-pub chain_room : (w : ℕ) (bytes : List ℕ) (p : Places) (count : ℕ) → 72 ≤ w → placed w bytes p count ≡ Ok tt → (1 ≤ count) × (72 ≤ w) × (p.chain + (32 + w * count) ≤ length bytes)
-chain_room w bytes p count wide e =
+pub chain_room : (w : ℕ) (bytes : List ℕ) (p : Places) (count : ℕ) → placed w bytes p count ≡ Ok tt → (1 ≤ count) × (p.chain + (32 + w * count) ≤ length bytes)
+chain_room w bytes p count e =
     let q = placed_passed w bytes p count e in
     let h = q.chain_fits in
-    (at_least_one count q.counted, wide, omega (arith, h))
+    (at_least_one count q.counted, omega (arith, h))
 
 -- ---- a job that was read
 given : (c : Checked) (j k : Job) → job_unless c k ≡ Ok j → (c ≡ Ok tt) × (j ≡ k)

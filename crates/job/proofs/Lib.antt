@@ -1,10 +1,12 @@
 pub mod JobWithin
+pub mod RecordLengths
 pub mod Copying
 pub mod JobBetween
 pub mod JobChain
 pub mod FilesBefore
 pub mod Turns
 pub mod Wound
+pub mod Chunks
 pub mod Surveying
 pub mod CableLaws
 pub mod CableBefore

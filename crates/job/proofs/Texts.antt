@@ -1,17 +1,17 @@
 -- Laws of whole texts: their lengths, and what is put of them step by step.
-use Rattle.std.proofs.Common.{◌≡◌, ℕ, ◌+◌, ◌/◌, ◌<◌, ◌≤◌, Bool, true, false, List, ◌++◌, length, refl, arith, append_assoc, length-append, le-leb, leb-false, leb-true}
+use Rattle.std.proofs.Common.{◌≡◌, ℕ, ◌+◌, ◌/◌, ◌<◌, ◌≤◌, true, false, List, ◌++◌, length, refl, arith, append_assoc, length-append, le-leb, leb-false, leb-true}
 use borrow.Author.Tests.{lt-leb}
 use lib.Ieee.{Float}
-use Rattle.std.specs.Prelude.{Ok}
+use Rattle.std.specs.Prelude.{None, Ok, Option, Some}
 use Rattle.lists.proofs.Rows.{length_rows}
 use Rattle.refusal.specs.Numbers.{number_of}
-use Rattle.refusal.specs.declared.Refusal.{Refusal}
+use Rattle.refusal.specs.declared.Cause.{Cause}
 use Rattle.chain.specs.declared.Joints.{Joints}
 use Rattle.turn.specs.Items.{joints_from}
 use Rattle.job.specs.Cable.{joint_sets}
 use Rattle.job.specs.declared.spelling.Page.{Page}
 use Rattle.job.specs.Spelling.{Fits, Put, width, labelled, paired}
-use Rattle.job.specs.Telling.{newline, refused_word, pose_word, lines, lines_length, lines_fit, head, head_length, path_text, refusal_text, pose_text, refused_text, pose_part, told, told_over, no_space}
+use Rattle.job.specs.Telling.{newline, refused_word, pose_word, lines, lines_length, lines_fit, head, head_length, path_text, refused_text, pose_part, told, told_over, no_space}
 use Rattle.job.specs.declared.Figures.{Figures}
 use Rattle.job.proofs.Written.{length_labelled, length_paired}
 use Rattle.job.proofs.Lines.{length_lines}
@@ -47,28 +47,28 @@ put_told {text} {p} {q} z h f =
     (rw (t, e), rw (t, ← z) f.whole)
 
 -- ---- a refusal
-pub refused_parts : (r : Refusal) (of_pose : Bool) → refused_text r of_pose ≡ labelled refused_word (number_of r.cause) ++ (pose_part r.at of_pose ++ newline)
-unfolding refused_text pose_part pose_text refusal_text paired
-refused_parts r true = append_assoc (labelled refused_word (number_of r.cause)) (labelled pose_word r.at) newline
-refused_parts r false = refl
+pub refused_parts : (cause : Cause) (pose : Option ℕ) → refused_text cause pose ≡ labelled refused_word (number_of cause) ++ (pose_part pose ++ newline)
+unfolding refused_text pose_part paired
+refused_parts cause None = refl
+refused_parts cause (Some at) = append_assoc (labelled refused_word (number_of cause)) (labelled pose_word at) newline
 
-module _ (r : Refusal) (of_pose : Bool) {p : Page} (z : p.at ≡ 0) {k : ℕ} (e : k ≡ length (refused_text r of_pose)) (h : k ≤ length p.out.now) where
-  pub refused_fits : Fits p (labelled refused_word (number_of r.cause) ++ (pose_part r.at of_pose ++ newline))
+module _ (cause : Cause) (pose : Option ℕ) {p : Page} (z : p.at ≡ 0) {k : ℕ} (e : k ≡ length (refused_text cause pose)) (h : k ≤ length p.out.now) where
+  pub refused_fits : Fits p (labelled refused_word (number_of cause) ++ (pose_part pose ++ newline))
   refused_fits =
-      let w : Fits p (refused_text r of_pose) = record { room = omega (arith, z, e, h) } in
+      let w : Fits p (refused_text cause pose) = record { room = omega (arith, z, e, h) } in
       rw refused_parts at w
 
-  pub refused_put : {q : Page} → Put p (labelled refused_word (number_of r.cause) ++ (pose_part r.at of_pose ++ newline)) q
-      → (Ok q.at ≡ told (refused_text r of_pose) (length p.out.now)) × (q.out.now ≡ told_over (refused_text r of_pose) p.out.now)
+  pub refused_put : {q : Page} → Put p (labelled refused_word (number_of cause) ++ (pose_part pose ++ newline)) q
+      → (Ok q.at ≡ told (refused_text cause pose) (length p.out.now)) × (q.out.now ≡ told_over (refused_text cause pose) p.out.now)
   refused_put f = rw refused_parts (put_told z refused_fits f)
 
-pub length_pose : (r : Refusal) → length (pose_text r) ≡ 8 + width (number_of r.cause) + (6 + width r.at) + 1
-unfolding pose_text
-length_pose r = rw (length-append, length_paired)
+pub length_pose : (cause : Cause) (at : ℕ) → length (refused_text cause (Some at)) ≡ 8 + width (number_of cause) + (6 + width at) + 1
+unfolding refused_text
+length_pose cause at = rw (length-append, length_paired)
 
-pub length_refusal : (r : Refusal) → length (refusal_text r) ≡ 8 + width (number_of r.cause) + 1
-unfolding refusal_text
-length_refusal r = rw (length-append, length_labelled)
+pub length_refusal : (cause : Cause) → length (refused_text cause None) ≡ 8 + width (number_of cause) + 1
+unfolding refused_text
+length_refusal cause = rw (length-append, length_labelled)
 
 -- ---- a path
 module _ (f : Figures) (joints : List Float) where

@@ -10,6 +10,7 @@ use Rattle.lists.specs.Rows.{rows}
 use Rattle.lists.specs.Search.{all}
 use Rattle.refusal.specs.declared.Refusal.{Refusal}
 use Rattle.refusal.specs.declared.Cause.{Cause}
+use Rattle.chain.specs.Angles.{angle_of}
 use Rattle.chain.specs.Checked.{Checked}
 use Rattle.chain.specs.declared.Joints.{Joints}
 use Rattle.chain.specs.declared.Kinematics.{Kinematics}
@@ -20,9 +21,6 @@ use Rattle.job.specs.declared.Survey.{Survey}
 -- ---- the joint sets, five numbers each
 unfoldable pub joint_sets : List Float → List Joints
 joint_sets l = rows 5 joints_from (length l / 5) l
-
-unfoldable pub angle_of : ℕ → Joints → Float
-angle_of rotary j = cond (rotary == 0) j.a0 j.a1
 
 -- how far the cable is wound: from the angle at which it hangs free
 unfoldable pub rest_of : Kinematics → ℕ → Float

@@ -13,6 +13,8 @@ use Rattle.chain.specs.Check.{demand, first_refusal, one_or_two, known_letter}
 use Rattle.chain.specs.ChainBytes.{empty_field, first_field, second_field, spindle_field, length_of_chain, letter_field, zeros, rotary_fields, rotary_at, no_rotary}
 use Rattle.job.specs.declared.Places.{Places}
 use Rattle.job.specs.declared.Job.{Job}
+use Rattle.job.specs.declared.RecordKind.{RecordKind}
+use Rattle.job.specs.declared.RecordKind.TheVariants.{NoRest, WithRest}
 
 -- ---- the fields of the trailer, by where it starts
 abbrev pub trailer : List ℕ → ℕ
@@ -46,6 +48,16 @@ four a b c d = a + b * 256 ^ 1 + c * 256 ^ 2 + d * 256 ^ 3
 -- ---- how long a rotary's record is, by the trailer's word
 unfoldable pub word_length : ℕ → ℕ
 word_length word = cond (word == 1) 80 72
+
+-- and by its kind
+unfoldable pub bytes_in : RecordKind → ℕ
+bytes_in NoRest = 72
+bytes_in WithRest = 80
+
+-- the word that says it
+unfoldable pub word_in : RecordKind → ℕ
+word_in NoRest = 0
+word_in WithRest = 1
 
 -- ---- where the parts are
 unfoldable pub sized : ℕ → Bool
@@ -116,8 +128,7 @@ job_at w bytes p chain = record {
   poses_at = p.poses;
   poses = p.count;
   cone = number_at bytes (cone_field (trailer bytes));
-  chord = number_at bytes (chord_field (trailer bytes));
-  axis = number_at bytes (axis_field (trailer bytes));
+  tol = record { chord = number_at bytes (chord_field (trailer bytes)); axis = number_at bytes (axis_field (trailer bytes)) };
   chain = chain;
 }
 

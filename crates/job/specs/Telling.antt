@@ -1,6 +1,6 @@
 -- The text of an answer. A path: `poses`, how many; `inserted`, how many of them; `turns`, the cable numbers of the two rotaries; then a line for each joint set, its index and its five numbers by their bits.
 -- A refusal: `refused`, its number, and where it is of a pose, `pose` and the index. Each line ends with a newline.
-use Rattle.std.specs.Prelude.{ℕ, zero, suc, ◌+◌, Bool, cond, List, [], ◌∷◌, ◌++◌, length, nat_le, Err, Ok, Result}
+use Rattle.std.specs.Prelude.{ℕ, zero, suc, ◌+◌, Bool, cond, List, [], ◌∷◌, ◌++◌, length, nat_le, None, Option, Some, Err, Ok, Result}
 use Rattle.refusal.specs.Numbers as Numbers
 use Rattle.refusal.specs.declared.Cause.{Cause}
 use Rattle.chain.specs.declared.Joints.{Joints}
@@ -68,12 +68,14 @@ refusal_text r = labelled refused_word (Numbers.number_of r.cause) ++ newline
 unfoldable pub pose_text : Refusal → List ℕ
 pose_text r = paired refused_word (Numbers.number_of r.cause) pose_word r.at ++ newline
 
--- the two in one, and what only the second has
-unfoldable pub refused_text : Refusal → Bool → List ℕ
-refused_text r of_pose = cond of_pose (pose_text r) (refusal_text r)
+-- the two in one, by the pose that a refusal names; and what only the second has
+unfoldable pub refused_text : Cause → Option ℕ → List ℕ
+refused_text cause None = labelled refused_word (Numbers.number_of cause) ++ newline
+refused_text cause (Some at) = paired refused_word (Numbers.number_of cause) pose_word at ++ newline
 
-unfoldable pub pose_part : ℕ → Bool → List ℕ
-pose_part at of_pose = cond of_pose (labelled pose_word at) []
+unfoldable pub pose_part : Option ℕ → List ℕ
+pose_part None = []
+pose_part (Some at) = labelled pose_word at
 
 -- how a job ended: with a divided path, or without one; which refusals name a pose is said by the answer itself
 abbrev pub Ended : Type 0

@@ -1,5 +1,5 @@
 // The poses of a job, copied into lent numbers, six for each.
-ghost use Rattle.std.specs.Prelude.{◌≡◌, ◌+◌, ◌*◌, ◌≤◌, ◌++◌, length, drop};
+ghost use Rattle.std.specs.Prelude.{◌≡◌, ◌+◌, ◌*◌, ◌≤◌, length};
 ghost use Rattle.job.specs.JobBytes.{read_job};
 ghost use Rattle.job.specs.JobPoses as S;
 
@@ -8,13 +8,13 @@ use crate::job_bytes::read_job;
 use chain::{demand, number_at};
 use refusal::{Cause, Refusal};
 
-// Numbers from an offset on, to the front of an output.
-fn numbers_at(bytes: &[u8], at: usize, n: usize, out: &mut [f64])
-    requires { (at + 8 * n ≤ length bytes.now) × (n ≤ length out.old) }
-    ensures { out.new ≡ S.numbers_at n bytes.now at ++ drop n out.old }
+// An output full of numbers, from an offset on.
+fn numbers_at(bytes: &[u8], at: usize, out: &mut [f64])
+    requires { at + 8 * length out.old ≤ length bytes.now }
+    ensures { out.new ≡ S.numbers_at (length out.old) bytes.now at }
 {
-    for i in 0..n {
-        out[i] = number_at(bytes, at + 8 * i);
+    for (i, x) in out.iter_mut().enumerate() {
+        *x = number_at(bytes, at + 8 * i);
     }
 }
 
@@ -26,7 +26,7 @@ fn lend(bytes: &[u8], j: Job, out: &mut [f64]) -> Result<(), Refusal>
 {
     let numbers = 6 * j.poses as usize;
     demand(numbers <= out.len(), Cause::NoSpace, 0)?;
-    numbers_at(bytes, j.poses_at as usize, numbers, out);
+    numbers_at(bytes, j.poses_at as usize, &mut out[..numbers]);
     path::clear_from(out, numbers);
     Ok(())
 }

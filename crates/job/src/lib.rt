@@ -15,9 +15,9 @@ mod winding;
 use chain::Kinematics;
 pub use job_bytes::read_job;
 pub use lending::job_poses;
-pub use placing::word_length;
+use middle::Tolerances;
 use refusal::Refusal;
-pub use spelling::{bits_of, put_bytes};
+pub use spelling::{Page, bits_of, put_bytes};
 pub use telling::answer_text;
 pub use winding::cable_number;
 
@@ -31,6 +31,13 @@ pub struct Places {
     pub word: u32,
 }
 
+// A rotary's record in the file: of 80 bytes with a rest angle, of 72 without.
+#[derive(Clone, Copy)]
+pub enum RecordKind {
+    NoRest,
+    WithRest,
+}
+
 // A job without its poses, which stay in the bytes.
 #[derive(Clone, Copy)]
 pub struct Job {
@@ -39,13 +46,13 @@ pub struct Job {
     pub poses_at: u32,
     pub poses: u32,
     pub cone: f64,
-    pub chord: f64,
-    pub axis: f64,
+    pub tol: Tolerances,
     pub chain: Kinematics,
 }
 
 // What one reading of a path's joint sets finds: whether all are finite, whether all are within the limits of size,
-// and the most whole turns of a rotary.
+// and the most whole turns of a rotary. No `Option<u64>`: each of the two has a check of its own, and both stand behind
+// others in the list.
 #[derive(Clone, Copy)]
 pub struct Survey {
     pub finite: bool,

@@ -17,8 +17,9 @@ fn digit(d: u64) -> u8
     }
 }
 
-// 16 hexadecimal digits.
-fn put_hexadecimal(x: u64, out: &mut [u8], at: usize)
+// 16 hexadecimal digits. By index: with `iter_mut().rev()` the proof did not close, since under `rev` the invariant
+// cannot name the bytes.
+pub fn put_hexadecimal(x: u64, out: &mut [u8], at: usize)
     requires { at + 16 ≤ length out.old }
     ensures { out.new ≡ S.written out.old at (S.digits 16 16 x) }
 {
@@ -51,7 +52,7 @@ pub fn bits_of(x: f64) -> u64
     f64_to_bits_with_nan(x)
 }
 
-// Bytes, and where the next of a text goes.
+// Bytes, and where the next of a text goes: the text of an answer here, a job in crate writer.
 #[derive(Drop)]
 pub struct Page<'a> {
     pub out: &'a mut [u8],
@@ -65,34 +66,5 @@ impl Page<'_> {
     {
         put_bytes(text, self.out, self.at);
         self.at += text.len();
-    }
-
-    pub fn put_decimal(&mut self, x: u64)
-        requires { S.Fits self.old (S.decimal x) }
-        ensures { S.Put self.old (S.decimal x) self.new }
-    {
-        let mut buffer = itoa::Buffer::new();
-        self.put(buffer.format(x).as_bytes());
-    }
-
-    // A word, then a number.
-    #[tactic(auto, using(crate::proofs::Written::fits_next), unfolding(crate::specs::Spelling::labelled))]
-    pub fn put_labelled(&mut self, label: &[u8], x: u64)
-        requires { S.Fits self.old (S.labelled label.now x) }
-        ensures { S.Put self.old (S.labelled label.now x) self.new }
-    {
-        self.put(label);
-        self.put_decimal(x);
-    }
-
-    // A space and 16 hexadecimal digits.
-    pub fn put_number(&mut self, x: f64)
-        requires { S.Fits self.old (S.number x) }
-        ensures { S.Put self.old (S.number x) self.new }
-    {
-        let bits = bits_of(x);
-        self.out[self.at] = b' ';
-        put_hexadecimal(bits, self.out, self.at + 1);
-        self.at += 17;
     }
 }

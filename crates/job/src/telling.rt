@@ -1,17 +1,47 @@
 // The text of an answer, in a lent buffer: the path with its figures, a line for each joint set, or a refusal, with
 // the pose where there is one. What has no room is 28 with count 0, and the buffer is kept; bytes behind a text stay.
 ghost use Rattle.std.specs.Prelude.{◌≡◌, ◌≤◌, length};
-ghost use Rattle.job.specs.Spelling.{Fits, Put};
+ghost use Rattle.job.specs.Spelling.{Fits, Put, decimal, labelled, number};
 ghost use Rattle.job.specs.Cable.{joint_sets};
 ghost use Rattle.job.specs.Telling as S;
 
-use crate::spelling::{Page, width};
+use crate::spelling::{Page, bits_of, put_hexadecimal, width};
 use crate::{Figures, JobError};
 use chain::Joints;
 use refusal::{Cause, Refusal};
 
 // ---- what is put
+// By `put`, and not by `write!`: that says what it wrote only where it answers `Ok`, and the promise is of every byte.
 impl Page<'_> {
+    fn put_decimal(&mut self, x: u64)
+        requires { Fits self.old (decimal x) }
+        ensures { Put self.old (decimal x) self.new }
+    {
+        let mut buffer = itoa::Buffer::new();
+        self.put(buffer.format(x).as_bytes());
+    }
+
+    // A word, then a number.
+    #[tactic(auto, using(crate::proofs::Written::fits_next), unfolding(crate::specs::Spelling::labelled))]
+    fn put_labelled(&mut self, label: &[u8], x: u64)
+        requires { Fits self.old (labelled label.now x) }
+        ensures { Put self.old (labelled label.now x) self.new }
+    {
+        self.put(label);
+        self.put_decimal(x);
+    }
+
+    // A space and 16 hexadecimal digits.
+    fn put_number(&mut self, x: f64)
+        requires { Fits self.old (number x) }
+        ensures { Put self.old (number x) self.new }
+    {
+        let bits = bits_of(x);
+        self.out[self.at] = b' ';
+        put_hexadecimal(bits, self.out, self.at + 1);
+        self.at += 17;
+    }
+
     #[tactic(auto, unfolding(crate::specs::Telling::numbers))]
     fn put_numbers(&mut self, j: Joints)
         requires { Fits self.old (S.numbers j) }
@@ -39,10 +69,9 @@ impl Page<'_> {
         requires { Fits self.old (S.lines 0 (joint_sets joints.now)) }
         ensures { Put self.old (S.lines 0 (joint_sets joints.now)) self.new }
     {
-        let n = joints.len() / 5;
-        for i in 0..n {
-            let j = turn::joints_in(joints, i * 5);
-            self.put_line(i as u64, j);
+        let (sets, _) = joints.as_chunks::<5>();
+        for (i, set) in sets.iter().enumerate() {
+            self.put_line(i as u64, turn::joints_in(set, 0));
         }
     }
 
@@ -59,17 +88,18 @@ impl Page<'_> {
     }
 
     // Nothing of a refusal of no pose.
-    fn put_pose(&mut self, at: u64, of_pose: bool)
-        requires { Fits self.old (S.pose_part at of_pose) }
-        ensures { Put self.old (S.pose_part at of_pose) self.new }
+    #[tactic(auto, using(crate::proofs::Written::put_none), unfolding(crate::specs::Telling::pose_part))]
+    fn put_pose(&mut self, pose: Option<u64>)
+        requires { Fits self.old (S.pose_part pose) }
+        ensures { Put self.old (S.pose_part pose) self.new }
     {
-        if of_pose {
+        if let Some(at) = pose {
             self.put_labelled(b" pose ", at);
         }
     }
 }
 
-// Whether n lines fit behind what is used.
+// Whether n lines fit behind what is used. A line is as long as its index is wide, so the index is the item.
 fn lines_fit(n: usize, used: usize, room: usize) -> bool
     requires { n ≤ 9223372036854775807 }
     ensures { result ≡ S.lines_fit n used room }
@@ -101,7 +131,7 @@ fn head_length(f: Figures, n: u64) -> usize
 }
 
 // ---- the texts
-// One refusal of three texts, under the name that the contracts have for it.
+// One refusal of two texts, under the name that the contracts have for it.
 fn no_space() -> Result<usize, Refusal>
     ensures { result ≡ S.no_space }
 {
@@ -123,33 +153,33 @@ fn path_text(f: Figures, joints: &[f64], out: &mut [u8]) -> Result<usize, Refusa
     Ok(page.at)
 }
 
-fn refused_length(r: Refusal, of_pose: bool) -> usize
-    ensures { result ≡ length (S.refused_text r of_pose) }
+fn refused_length(cause: Cause, pose: Option<u64>) -> usize
+    ensures { result ≡ length (S.refused_text cause pose) }
 {
-    let refused = 9 + width(r.cause.number() as u64);
-    if of_pose {
-        refused + (6 + width(r.at))
-    } else {
-        refused
+    let refused = 9 + width(cause.number() as u64);
+    match pose {
+        None => refused,
+        Some(at) => refused + (6 + width(at)),
     }
 }
 
-fn refused_text(r: Refusal, of_pose: bool, out: &mut [u8]) -> Result<usize, Refusal>
-    ensures told { result ≡ S.told (S.refused_text r of_pose) (length out.old) }
-    ensures lent { out.new ≡ S.told_over (S.refused_text r of_pose) out.old }
+// A refusal, with the pose that it names.
+fn refused_text(cause: Cause, pose: Option<u64>, out: &mut [u8]) -> Result<usize, Refusal>
+    ensures told { result ≡ S.told (S.refused_text cause pose) (length out.old) }
+    ensures lent { out.new ≡ S.told_over (S.refused_text cause pose) out.old }
 {
-    if out.len() < refused_length(r, of_pose) {
+    if out.len() < refused_length(cause, pose) {
         return no_space();
     }
     let mut page = Page { out, at: 0 };
-    page.put_labelled(b"refused ", r.cause.number() as u64);
-    page.put_pose(r.at, of_pose);
+    page.put_labelled(b"refused ", cause.number() as u64);
+    page.put_pose(pose);
     page.put(b"\n");
     Ok(page.at)
 }
 
 // The text of what a job came to; `joints` is its divided path.
-#[tactic(auto, unfolding(crate::specs::Telling::refused_text))]
+#[tactic(auto, unfolding(crate::specs::Telling::refused_text, crate::specs::Telling::refusal_text, crate::specs::Telling::pose_text))]
 pub fn answer_text(
     ended: Result<Figures, JobError>,
     joints: &[f64],
@@ -160,7 +190,7 @@ pub fn answer_text(
 {
     match ended {
         Ok(f) => path_text(f, joints, out),
-        Err(JobError::Refused(r)) => refused_text(r, false, out),
-        Err(JobError::AtPose(r)) => refused_text(r, true, out),
+        Err(JobError::Refused(r)) => refused_text(r.cause, None, out),
+        Err(JobError::AtPose(r)) => refused_text(r.cause, Some(r.at), out),
     }
 }

@@ -8,6 +8,7 @@ use chain::{Joints, Kinematics, demand};
 use refusal::{Cause, Refusal};
 
 // The whole turns in a wind of at most 72,000 degrees; of any other, which no path has that a check lets by, none.
+#[tactic(auto, using(crate::proofs::Turns::in_range, crate::proofs::Turns::turns_counted), unfolding(crate::specs::Cable::turns_within))]
 fn turns_within(wind: f64) -> u64
     ensures { result ≡ S.turns_within wind }
 {
@@ -16,13 +17,6 @@ fn turns_within(wind: f64) -> u64
         return std::num::truncating_f64_to_u64(size) / 360;
     }
     0
-}
-
-#[tactic(auto, unfolding(crate::specs::Cable::angle_of))]
-fn angle_of(rotary: usize, j: Joints) -> f64
-    ensures { result ≡ S.angle_of rotary j }
-{
-    if rotary == 0 { j.a0 } else { j.a1 }
 }
 
 #[tactic(auto, unfolding(crate::specs::Cable::rest_of))]
@@ -40,7 +34,7 @@ fn rest_of(k: Kinematics, rotary: usize) -> f64
 fn surveyed(rest: f64, rotary: usize, s: Survey, j: Joints) -> Survey
     ensures { result ≡ S.surveyed rest rotary s j }
 {
-    let wind = angle_of(rotary, j) - rest;
+    let wind = j.angle(rotary) - rest;
     Survey {
         finite: s.finite && chain::joints_finite(j),
         within: s.within && chain::joints_within(j),
@@ -51,15 +45,14 @@ fn surveyed(rest: f64, rotary: usize, s: Survey, j: Joints) -> Survey
 fn survey(rest: f64, rotary: usize, joints: &[f64]) -> Survey
     ensures { result ≡ S.survey rest rotary (S.joint_sets joints.now) }
 {
-    let n = joints.len() / 5;
+    let (sets, _) = joints.as_chunks::<5>();
     let mut s = Survey {
         finite: true,
         within: true,
         turns: 0,
     };
-    for i in 0..n {
-        let j = turn::joints_in(joints, i * 5);
-        s = surveyed(rest, rotary, s, j);
+    for set in sets {
+        s = surveyed(rest, rotary, s, turn::joints_in(set, 0));
     }
     s
 }
@@ -81,7 +74,9 @@ fn cable_check(k: Kinematics, numbers: usize, s: Survey) -> Result<(), Refusal>
     demand(cable_sizes(k, s.within), Cause::TooLarge, 0)
 }
 
-// The cable number of the rotary with that index, 0 of one that the chain lacks.
+// The cable number of the rotary with that index, 0 of one that the chain lacks. Any index may be asked for, so no enum
+// of two rotaries: that would ask more of callers.
+#[tactic(auto, unfolding(crate::specs::Cable::cable_number, crate::specs::Cable::cable_of))]
 pub fn cable_number(k: Kinematics, joints: &[f64], rotary: usize) -> Result<u64, Refusal>
     ensures { result ≡ S.cable_number k joints.now rotary }
 {

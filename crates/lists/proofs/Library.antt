@@ -1,9 +1,9 @@
 -- The searches and the fold of this crate beside the library's words, in which the contracts of iterators speak. And a loop
 -- over a whole slice, as a fold.
-use Prim.Native.Nat.{ℕ, zero, suc, ◌+◌, ◌≤◌}
+use Prim.Native.Nat.{ℕ, suc, ◌+◌, ◌≤◌}
 use native.Mathlib.Omega.{arith}
 use mathlib.Core.Path.{◌≡◌, refl, ap, ◌∙◌}
-use mathlib.Core.Bool.{Bool, true, false, cond, ◌&&◌, ◌||◌}
+use mathlib.Core.Bool.{Bool, true, false, cond}
 use mathlib.Core.List.{List, [], ◌∷◌}
 use lib.ListN.{length, get_or}
 use lib.Seq.{take_all}
@@ -13,7 +13,7 @@ use Rattle.std.specs.List as Std
 use Rattle.std.proofs.lemmas.List.Recursion.{is_position_or_len}
 use Rattle.lists.specs.Fold.{fold}
 use Rattle.lists.specs.Search.{first_hit, any, all}
-use Rattle.lists.proofs.Fold.{Folding, folding_start, folding_end}
+use Rattle.lists.proofs.Fold.{Folding, folding_end}
 
 module _ {A : Type 0} (test : A → Bool) where
   pub any_is : (l : List A) → any test l ≡ Std.list_any test l

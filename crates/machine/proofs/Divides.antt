@@ -18,26 +18,23 @@ use Rattle.halving.proofs.Machine.{State, start_placed}
 use Rattle.chain.specs.declared.Prepared.{Prepared}
 use Rattle.path.specs.Solving.{joint_numbers}
 use Rattle.turn.specs.declared.Stop.{Stop}
+use Rattle.turn.specs.declared.outputs.Outputs.{Outputs}
+use Rattle.turn.specs.Lent.{Same, Left}
 use Rattle.turn.specs.Items.{pose_numbers, item, items_in}
 use Rattle.middle.specs.Testing.{divides, midpoint}
 use Rattle.turn.specs.Turning.{most, axis_at, end_at_start, begun, absent, reached, Turn}
-use Rattle.machine.specs.Dividing.{division_after, divided_in, poses_over, joints_over, Ready, halved_from, RanTo, Ran, staying, answer_in, Divided}
+use Rattle.machine.specs.Dividing.{division_after, divided_in, poses_over, joints_over, Ready, halved_from, RanTo, Ran, staying, answer_in, Divided, Over}
 use Rattle.middle.specs.declared.Item.{Item}
 use Rattle.turn.specs.declared.Machine.{Machine}
 use Rattle.middle.specs.declared.Tolerances.{Tolerances}
 use Rattle.turn.proofs.Stored.{pose_codec, joints_codec, items_length}
+use Rattle.turn.proofs.Lent.{same_then, same_left}
 use Rattle.turn.proofs.Running.{axis_there}
 
 staying_least : (answer : Answer Item) (space : ℕ) (poses joints : List Float) (r : Turn) → RanTo answer space poses joints r → staying r ≤ space
 staying_least answer space poses joints (Ok last) h = h.1
 staying_least answer space poses joints (Err (Stop.TooMany n)) h = omega arith
 staying_least answer space poses joints (Err (Stop.NoSpace n)) h = omega arith
-
-pub staying_fits : {answer : Answer Item} {space : ℕ} {poses joints : List Float} {r : Turn} → Ran answer space poses joints r → space * 6 ≤ length poses → space * 5 ≤ length joints
-    → (staying r * 6 ≤ length poses) × (staying r * 5 ≤ length joints)
-staying_fits {answer} {space} {poses} {joints} {r} h a b =
-    let k = staying_least answer space poses joints r h.so in
-    (omega arith, omega arith)
 
 -- ---- the start
 module _ (p : Prepared) (tol : Tolerances) (space count had : ℕ) (poses₀ joints₀ poses joints : List Float) (few : had ≤ most) (some : 0 < count) (fits : count ≤ space)
@@ -112,9 +109,29 @@ left_by answer space poses₀ joints₀ poses joints (Ok last) h a b c d e f g =
 left_by answer space poses₀ joints₀ poses joints (Err (Stop.TooMany n)) h a b c d e f g = rw h (e, (rw (← a, ← padded_nil (length poses) nought) f, rw (← b, ← padded_nil (length joints) nought) g))
 left_by answer space poses₀ joints₀ poses joints (Err (Stop.NoSpace n)) h a b c d e f g = rw h (e, (rw (← a, ← padded_nil (length poses) nought) f, rw (← b, ← padded_nil (length joints) nought) g))
 
-pub left_so : {answer : Answer Item} {space : ℕ} {poses joints : List Float} {r : Turn} (poses₀ joints₀ : List Float) {poses' joints' : List Float} {said : Divided} → Ran answer space poses joints r
-    → length poses ≡ length poses₀ → length joints ≡ length joints₀ → space * 6 ≤ length poses₀ → space * 5 ≤ length joints₀
-    → said ≡ answer_in r → poses' ≡ padded (length poses) nought (take (staying r * 6) poses) → joints' ≡ padded (length joints) nought (take (staying r * 5) joints)
-    → (said ≡ divided_in answer) × ((poses' ≡ poses_over answer poses₀) × (joints' ≡ joints_over answer joints₀))
-left_so {answer} {space} {poses} {joints} {r} poses₀ joints₀ h a b c d e f g =
-    left_by answer space poses₀ joints₀ poses joints r h.so a b (omega (arith, a, c)) (omega (arith, b, d)) e f g
+-- ---- in two outputs: o as they were lent, b with the items brought to the end, d once the machine has run
+module _ (p : Prepared) (tol : Tolerances) (count had : ℕ) {o b : Outputs} (few : had ≤ most) (some : 0 < count) (fits : count ≤ o.space) (brought : Same o b)
+    (first : take 1 (items_in o.space b.poses.now b.joints.now) ≡ take 1 (items_in count o.poses.now o.joints.now))
+    (rest : drop (o.space - count + 1) (items_in o.space b.poses.now b.joints.now) ≡ drop 1 (items_in count o.poses.now o.joints.now)) where
+  pub started : {m : Machine} → m ≡ begun p b.space count had b.joints.now → Ready p tol b.space m b.poses.now b.joints.now
+  started e =
+      let s = brought.as_much in
+      let x = b.poses_long in
+      let y = b.joints_long in
+      rw (e, s) (begun_ready p tol o.space count had o.poses.now o.joints.now b.poses.now b.joints.now few some fits first rest (omega (arith, s, x)) (omega (arith, s, y)))
+
+  module _ {m : Machine} {d : Outputs} {r : Turn} (is : m ≡ begun p b.space count had b.joints.now) (same : Same b d)
+      (ran : Ran (halved_from p tol b.space m b.poses.now b.joints.now) b.space d.poses.now d.joints.now r) where
+    pub ended_within : staying r ≤ d.space
+    ended_within = rw same.as_much (staying_least _ b.space d.poses.now d.joints.now r ran.so)
+
+    pub ended : {e : Outputs} {said : Divided} → said ≡ answer_in r
+        → Left d (padded (length d.poses.now) nought (take (staying r * 6) d.poses.now)) (padded (length d.joints.now) nought (take (staying r * 5) d.joints.now)) e
+        → (said ≡ divided_in (division_after had p tol o.space (items_in count o.poses.now o.joints.now)))
+        × Over (division_after had p tol o.space (items_in count o.poses.now o.joints.now)) o e
+    ended {e} f l =
+        let all = same_then brought same in
+        let all_said = left_by (division_after had p tol o.space (items_in count o.poses.now o.joints.now)) o.space o.poses.now o.joints.now d.poses.now d.joints.now r
+        (begun_ran p tol o.space count had o.poses.now o.joints.now b.poses.now b.joints.now few some fits first rest (is ∙ ap (λ (s : ℕ). begun p s count had b.joints.now) brought.as_much)
+        (rw brought.as_much at ran)).so all.long_poses all.long_joints (rw all.as_much at d.poses_long) (rw all.as_much at d.joints_long) f l.in_poses l.in_joints in
+        (all_said.0, record { same_poses = (same_left all l).same_poses; same_joints = (same_left all l).same_joints; as_much = (same_left all l).as_much; in_poses = all_said.1.0; in_joints = all_said.1.1 })

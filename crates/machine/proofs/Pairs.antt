@@ -8,15 +8,15 @@ use mathlib.Core.List.{List, [], ◌∷◌}
 use lib.Dec.{leb}
 use lib.ListN.{length, set}
 use lib.Ieee.{Float}
-use borrow.Author.Tests.{leb-true, leb-false}
-use Rattle.halving.specs.Halving.{step, Answer, Done, TooMany, NoSpace, count}
+use borrow.Author.Tests.{leb-true, leb-false, le-ltb}
+use Rattle.halving.specs.Halving.{step, Done, TooMany}
 use Rattle.halving.proofs.Step.{halve_done, halve_many}
 use Rattle.chain.specs.declared.Prepared.{Prepared}
-use Rattle.turn.specs.Items.{items_in, poses_with, joints_with}
+use Rattle.turn.specs.Items.{items_in, poses_with, joints_with, space_in}
 use Rattle.middle.specs.Testing.{divides, midpoint}
 use Rattle.turn.specs.Turning.{most}
 use Rattle.machine.specs.Dividing.{division_after, divided_in, poses_over, joints_over, Divided}
-use Rattle.machine.specs.Filling.{pair_halved, counted, recounted, count_in}
+use Rattle.machine.specs.Filling.{pair_halved, filled, counted, recounted}
 use Rattle.middle.specs.declared.Item.{Item}
 use Rattle.middle.specs.declared.Tolerances.{Tolerances}
 use Rattle.turn.proofs.Stored.{items_length, item_set, poses_with_long, joints_with_long}
@@ -103,11 +103,7 @@ pair_filled p tol space had left right poses joints {o₂ = o₂} {q₂ = q₂} 
       ),
     )
 
--- ---- the count that is kept
-count_told : (answer : Answer Item) → count_in (divided_in answer) ≡ count answer
-count_told (Done n l) = refl
-count_told (TooMany n) = refl
-count_told (NoSpace n) = refl
-
-pub count_so : (answer : Answer Item) {said : Divided} {n : ℕ} → said ≡ divided_in answer → n ≡ count_in said → n ≡ count answer
-count_so answer e f = f ∙ ap count_in e ∙ count_told answer
+pub filled_is : (p : Prepared) (had : ℕ) (tol : Tolerances) (left right : Item) (poses joints : List Float) {space : ℕ} → space ≡ space_in (length poses) (length joints) → 2 ≤ space
+    → filled p had tol.chord tol.axis left right poses joints ≡ pair_halved p tol space had left right
+unfolding filled
+filled_is p had tol left right poses joints e h = let f = le-ltb _ _ h in rw (← e, f)

@@ -9,6 +9,8 @@ use Rattle.halving.specs.Halving as Halving
 use Rattle.chain.specs.declared.Prepared.{Prepared}
 use Rattle.path.specs.Solving.{joint_numbers}
 use Rattle.turn.specs.declared.Stop.{Stop}
+use Rattle.turn.specs.declared.outputs.Outputs.{Outputs}
+use Rattle.turn.specs.Lent.{Left}
 use Rattle.turn.specs.Items.{pose_numbers, items_in}
 use Rattle.middle.specs.Testing.{midpoint, divides}
 use Rattle.turn.specs.Turning.{most, Cached, Turn}
@@ -44,6 +46,10 @@ abbrev pub joints_over : Answer Item → List Float → List Float
 joints_over (Done n l) out = padded (length out) nought (flat joint_numbers (map (λ (t : Item). t.joints) l))
 joints_over (Halving.TooMany n) out = replicate (length out) nought
 joints_over (Halving.NoSpace n) out = replicate (length out) nought
+
+-- the two outputs with what a division leaves in them
+abbrev pub Over : Answer Item → Outputs → Outputs → Type 0
+Over answer old new = Left old (poses_over answer old.poses.now) (joints_over answer old.joints.now) new
 
 -- ---- the machine's promise
 -- a machine that can run: no two that are placed divide, and the axes at hand are right

@@ -39,7 +39,7 @@ count_in (Err (Stop.TooMany n)) = n
 count_in (Err (Stop.NoSpace n)) = n
 
 abbrev pub filling : Subdiv → Prepared → Item → Item → List Float → List Float → Answer Item
-filling job p left right poses joints = filled p job.inserted job.chord job.axis left right poses joints
+filling job p left right poses joints = filled p job.inserted job.tol.chord job.tol.axis left right poses joints
 
 abbrev pub after : Subdiv → Answer Item → Subdiv
-after job answer = record { inserted = count answer; chord = job.chord; axis = job.axis }
+after job answer = record { inserted = count answer; tol = job.tol }

@@ -1,27 +1,30 @@
 // The division of a path in two lent outputs, at the front of which its items stand: all but the first are brought to
 // the end, the machine runs, and what it leaves behind is cleared.
-ghost use Rattle.std.specs.Prelude.{◌+◌, ◌-◌, ◌*◌, ◌≤◌, ◌<◌, ◌≡◌, ◌++◌, length, take, drop};
+ghost use Rattle.std.specs.Prelude.{◌+◌, ◌-◌, ◌*◌, ◌≤◌, ◌<◌, ◌≡◌, length, take, drop};
 ghost use Rattle.float.specs.Helpers.{nought};
 ghost use Rattle.lists.specs.Padding.{padded};
 ghost use Rattle.turn.specs.Items.{items_in};
+ghost use Rattle.turn.specs.Lent.{Same, Left};
 ghost use Rattle.turn.specs.Turning.{axis_at, end_at_start, begun};
 ghost use Rattle.machine.specs.Dividing as S;
 
 use chain::Prepared;
 use geometry::Vec3;
-use middle::Tolerances;
-use turn::{GivenPath, Machine, Stop, axis_at, item_at, put_item};
+use turn::{GivenPath, Machine, Outputs, Setting, Stop, axis_at};
 
-// Brings all items but the first from the front to the end of `space`, the last one first.
-fn bring(space: usize, count: usize, poses: &mut [f64], joints: &mut [f64])
-    requires { ((0 < count) × (count ≤ space)) × ((space * 6 ≤ length poses.old) × (space * 5 ≤ length joints.old)) }
-    ensures first { take 1 (items_in space poses.new joints.new) ≡ take 1 (items_in count poses.old joints.old) }
-    ensures rest { drop (space - count + 1) (items_in space poses.new joints.new) ≡ drop 1 (items_in count poses.old joints.old) }
+// Brings all items but the first from the front to the end of the space. That there is an item and that all have space
+// is asked here, by `begin`, `divide_after` and the two entries. Tried: the count and the outputs in one struct, with
+// the two facts as ghost fields. No proof: the check of borrows takes no loan of a slice of `Outputs`, which has ghost
+// fields, out of another struct, be it there by value or by `&mut`.
+fn bring(count: usize, out: &mut Outputs)
+    requires { (0 < count) × (count ≤ out.old.space) }
+    ensures same { Same out.old out.new }
+    ensures first { take 1 (items_in out.old.space out.new.poses.now out.new.joints.now) ≡ take 1 (items_in count out.old.poses.now out.old.joints.now) }
+    ensures rest { drop (out.old.space - count + 1) (items_in out.old.space out.new.poses.now out.new.joints.now) ≡ drop 1 (items_in count out.old.poses.now out.old.joints.now) }
 {
-    for j in (1..count).rev() {
-        let t = item_at(poses, joints, j);
-        put_item(t, poses, joints, space - count + j);
-    }
+    let to = out.space - count + 1;
+    out.poses.copy_within(6..count * 6, to * 6);
+    out.joints.copy_within(5..count * 5, to * 5);
 }
 
 fn end_at_start(p: Prepared, space: usize, count: usize, axis: Vec3, joints: &[f64]) -> Vec3
@@ -35,15 +38,15 @@ fn end_at_start(p: Prepared, space: usize, count: usize, axis: Vec3, joints: &[f
 }
 
 // The first item is placed, and the others wait.
-fn begin(p: Prepared, space: usize, count: usize, had: u64, joints: &[f64]) -> Machine
-    requires { ((0 < count) × (count ≤ space)) × (space * 5 ≤ length joints.now) }
-    ensures { result ≡ begun p space count had joints.now }
+fn begin(p: Prepared, count: usize, had: u64, out: &Outputs) -> Machine
+    requires { (0 < count) × (count ≤ out.now.space) }
+    ensures { result ≡ begun p out.now.space count had out.now.joints.now }
 {
-    let left_axis = axis_at(p, joints, 0);
-    let end_axis = end_at_start(p, space, count, left_axis, joints);
+    let left_axis = axis_at(p, out.joints, 0);
+    let end_axis = end_at_start(p, out.space, count, left_axis, out.joints);
     Machine {
         placed: 1,
-        waiting: space - count + 1,
+        waiting: out.space - count + 1,
         inserted: had,
         given: count - 1,
         left_axis,
@@ -52,21 +55,15 @@ fn begin(p: Prepared, space: usize, count: usize, had: u64, joints: &[f64]) -> M
 }
 
 // Turn after turn, until nothing waits or one is refused.
-pub fn run(
-    p: Prepared,
-    tol: Tolerances,
-    space: usize,
-    m: Machine,
-    poses: &mut [f64],
-    joints: &mut [f64],
-) -> Result<Machine, Stop>
-    requires { S.Ready p tol space m poses.old joints.old }
-    ensures { S.Ran (S.halved_from p tol space m poses.old joints.old) space poses.new joints.new result }
+pub fn run(by: &Setting, m: Machine, out: &mut Outputs) -> Result<Machine, Stop>
+    requires { S.Ready by.now.p by.now.tol out.old.space m out.old.poses.now out.old.joints.now }
+    ensures same { Same out.old out.new }
+    ensures ran { S.Ran (S.halved_from by.now.p by.now.tol out.old.space m out.old.poses.now out.old.joints.now) out.old.space out.new.poses.now out.new.joints.now result }
 {
     let mut state = m;
     // Until nothing waits: how many turns that takes is not known before.
-    while state.waiting < space {
-        state = state.advance(p, tol, space, poses, joints)?;
+    while state.waiting < out.space {
+        state = state.advance(by, out)?;
     }
     Ok(state)
 }
@@ -74,10 +71,7 @@ pub fn run(
 fn staying(turn: Result<Machine, Stop>) -> usize
     ensures { result ≡ S.staying turn }
 {
-    match turn {
-        Ok(last) => last.placed,
-        Err(_) => 0,
-    }
+    turn.map_or(0, |last| last.placed)
 }
 
 fn answer_in(turn: Result<Machine, Stop>) -> Result<u64, Stop>
@@ -87,89 +81,51 @@ fn answer_in(turn: Result<Machine, Stop>) -> Result<u64, Stop>
 }
 
 // What is not placed is +0.0; after a refusal, everything.
-fn close(turn: Result<Machine, Stop>, poses: &mut [f64], joints: &mut [f64]) -> Result<u64, Stop>
-    requires { (S.staying turn * 6 ≤ length poses.old) × (S.staying turn * 5 ≤ length joints.old) }
+fn close(turn: Result<Machine, Stop>, out: &mut Outputs) -> Result<u64, Stop>
+    requires { S.staying turn ≤ out.old.space }
     ensures answer { result ≡ S.answer_in turn }
-    ensures poses { poses.new ≡ padded (length poses.old) nought (take (S.staying turn * 6) poses.old) }
-    ensures joints { joints.new ≡ padded (length joints.old) nought (take (S.staying turn * 5) joints.old) }
+    ensures lent { Left out.old (padded (length out.old.poses.now) nought (take (S.staying turn * 6) out.old.poses.now)) (padded (length out.old.joints.now) nought (take (S.staying turn * 5) out.old.joints.now)) out.new }
 {
     let n = staying(turn);
-    path::clear_from(poses, n * 6);
-    path::clear_from(joints, n * 5);
+    path::clear_from(out.poses, n * 6);
+    path::clear_from(out.joints, n * 5);
     answer_in(turn)
 }
 
-// The division of the first `count` items of the two outputs, with space for `space`, after `had` insertions elsewhere.
-pub fn divide_after(
-    p: Prepared,
-    tol: Tolerances,
-    space: usize,
-    count: usize,
-    had: u64,
-    poses: &mut [f64],
-    joints: &mut [f64],
-) -> Result<u64, Stop>
-    requires { (had ≤ 10000) × (((0 < count) × (count ≤ space)) × ((space * 6 ≤ length poses.old) × (space * 5 ≤ length joints.old))) }
-    ensures answer { result ≡ S.divided_in (S.division_after had p tol space (items_in count poses.old joints.old)) }
-    ensures poses { poses.new ≡ S.poses_over (S.division_after had p tol space (items_in count poses.old joints.old)) poses.old }
-    ensures joints { joints.new ≡ S.joints_over (S.division_after had p tol space (items_in count poses.old joints.old)) joints.old }
+// The division of the first `count` items of the two outputs, after `had` insertions elsewhere.
+pub fn divide_after(by: &Setting, count: usize, had: u64, out: &mut Outputs) -> Result<u64, Stop>
+    requires { (had ≤ 10000) × ((0 < count) × (count ≤ out.old.space)) }
+    ensures answer { result ≡ S.divided_in (S.division_after had by.now.p by.now.tol out.old.space (items_in count out.old.poses.now out.old.joints.now)) }
+    ensures lent { S.Over (S.division_after had by.now.p by.now.tol out.old.space (items_in count out.old.poses.now out.old.joints.now)) out.old out.new }
 {
-    bring(space, count, poses, joints);
-    let m = begin(p, space, count, had, joints);
-    let turn = run(p, tol, space, m, poses, joints);
-    close(turn, poses, joints)
+    bring(count, out);
+    let m = begin(by.p, count, had, out);
+    let turn = run(by, m, out);
+    close(turn, out)
 }
 
-// The same with none inserted before.
-pub fn divide_items(
-    p: Prepared,
-    tol: Tolerances,
-    space: usize,
-    count: usize,
-    poses: &mut [f64],
-    joints: &mut [f64],
-) -> Result<u64, Stop>
-    requires { ((0 < count) × (count ≤ space)) × ((space * 6 ≤ length poses.old) × (space * 5 ≤ length joints.old)) }
-    ensures answer { result ≡ S.divided_in (S.division p tol space (items_in count poses.old joints.old)) }
-    ensures poses { poses.new ≡ S.poses_over (S.division p tol space (items_in count poses.old joints.old)) poses.old }
-    ensures joints { joints.new ≡ S.joints_over (S.division p tol space (items_in count poses.old joints.old)) joints.old }
-{
-    divide_after(p, tol, space, count, 0, poses, joints)
-}
-
-// The same with the poses lent elsewhere; the joint sets stand at the front of their output.
+// The same with none inserted before, and the poses lent elsewhere; the joint sets stand at the front of their output,
+// so that the two are no `GivenPath`, which would borrow what `out` writes.
 pub fn divide_solved(
-    p: Prepared,
-    tol: Tolerances,
-    space: usize,
+    by: &Setting,
     count: usize,
     given: &[f64],
-    poses: &mut [f64],
-    joints: &mut [f64],
+    out: &mut Outputs,
 ) -> Result<u64, Stop>
-    requires { (length given.now ≡ count * 6) × (((0 < count) × (count ≤ space)) × ((space * 6 ≤ length poses.old) × (space * 5 ≤ length joints.old))) }
-    ensures answer { result ≡ S.divided_in (S.division p tol space (items_in count given.now joints.old)) }
-    ensures poses { poses.new ≡ S.poses_over (S.division p tol space (items_in count given.now joints.old)) poses.old }
-    ensures joints { joints.new ≡ S.joints_over (S.division p tol space (items_in count given.now joints.old)) joints.old }
+    requires { (length given.now ≡ count * 6) × ((0 < count) × (count ≤ out.old.space)) }
+    ensures answer { result ≡ S.divided_in (S.division by.now.p by.now.tol out.old.space (items_in count given.now out.old.joints.now)) }
+    ensures lent { S.Over (S.division by.now.p by.now.tol out.old.space (items_in count given.now out.old.joints.now)) out.old out.new }
 {
-    poses[..given.len()].copy_from_slice(given);
-    divide_items(p, tol, space, count, poses, joints)
+    out.poses[..given.len()].copy_from_slice(given);
+    divide_after(by, count, 0, out)
 }
 
 // The same with both lent elsewhere.
-pub fn divide_given(
-    p: Prepared,
-    tol: Tolerances,
-    space: usize,
-    given: &GivenPath,
-    poses: &mut [f64],
-    joints: &mut [f64],
-) -> Result<u64, Stop>
-    requires { ((0 < given.now.count) × (given.now.count ≤ space)) × ((space * 6 ≤ length poses.old) × (space * 5 ≤ length joints.old)) }
-    ensures answer { result ≡ S.divided_in (S.division p tol space (items_in given.now.count given.now.poses.now given.now.joints.now)) }
-    ensures poses { poses.new ≡ S.poses_over (S.division p tol space (items_in given.now.count given.now.poses.now given.now.joints.now)) poses.old }
-    ensures joints { joints.new ≡ S.joints_over (S.division p tol space (items_in given.now.count given.now.poses.now given.now.joints.now)) joints.old }
+pub fn divide_given(by: &Setting, given: &GivenPath, out: &mut Outputs) -> Result<u64, Stop>
+    requires { (0 < given.now.count) × (given.now.count ≤ out.old.space) }
+    ensures answer { result ≡ S.divided_in (S.division by.now.p by.now.tol out.old.space (items_in given.now.count given.now.poses.now given.now.joints.now)) }
+    ensures lent { S.Over (S.division by.now.p by.now.tol out.old.space (items_in given.now.count given.now.poses.now given.now.joints.now)) out.old out.new }
 {
-    joints[..given.joints.len()].copy_from_slice(given.joints);
-    divide_solved(p, tol, space, given.count, given.poses, poses, joints)
+    out.joints[..given.joints.len()].copy_from_slice(given.joints);
+    divide_solved(by, given.count, given.poses, out)
 }

@@ -1,25 +1,23 @@
 // One pair divided, as Subdiv::fill of the Rust does it: the poses that were inserted before count, and the two outputs
 // hold this pair alone.
-ghost use Rattle.std.specs.Prelude.{◌*◌, ◌≤◌, ◌≡◌, Err, length, replicate};
+ghost use Rattle.std.specs.Prelude.{◌≤◌, ◌≡◌, Err, length, replicate};
 ghost use Rattle.turn.specs.declared.Stop.{Stop};
 ghost use Rattle.float.specs.Helpers.{nought};
-ghost use Rattle.machine.specs.Dividing.{divided_in, poses_over, joints_over};
+ghost use Rattle.machine.specs.Dividing.{divided_in, poses_over, joints_over, Over};
 ghost use Rattle.machine.specs.Filling as S;
 
 use crate::Subdiv;
 use crate::dividing::divide_after;
 use chain::Prepared;
 use middle::{Item, Tolerances};
-use turn::{MOST, Stop, put_item, space_in};
+use turn::{MOST, Outputs, Setting, Stop, space_in};
 
 // Where the machine's count starts: it knows none past 10,000.
+#[tactic(auto, unfolding(crate::specs::Filling::counted))]
 fn counted(had: u64) -> u64
     ensures { result ≡ S.counted had }
 {
-    if had <= MOST {
-        return had;
-    }
-    MOST
+    had.min(MOST)
 }
 
 // Past 10,000 nothing is inserted, and the count stays what it was.
@@ -48,25 +46,21 @@ fn without_space(had: u64, poses: &mut [f64], joints: &mut [f64]) -> Result<u64,
     Err(Stop::NoSpace(had))
 }
 
-// The pair divided in a space for so many.
+// The pair divided in two outputs with space for it.
 fn fill_space(
-    p: Prepared,
-    tol: Tolerances,
-    space: usize,
+    by: &Setting,
     had: u64,
     left: Item,
     right: Item,
-    poses: &mut [f64],
-    joints: &mut [f64],
+    out: &mut Outputs,
 ) -> Result<u64, Stop>
-    requires { (2 ≤ space) × ((space * 6 ≤ length poses.old) × (space * 5 ≤ length joints.old)) }
-    ensures answer { result ≡ divided_in (S.pair_halved p tol space had left right) }
-    ensures poses { poses.new ≡ poses_over (S.pair_halved p tol space had left right) poses.old }
-    ensures joints { joints.new ≡ joints_over (S.pair_halved p tol space had left right) joints.old }
+    requires { 2 ≤ out.old.space }
+    ensures answer { result ≡ divided_in (S.pair_halved by.now.p by.now.tol out.old.space had left right) }
+    ensures lent { Over (S.pair_halved by.now.p by.now.tol out.old.space had left right) out.old out.new }
 {
-    put_item(left, poses, joints, 0);
-    put_item(right, poses, joints, 1);
-    let said = divide_after(p, tol, space, 2, counted(had), poses, joints);
+    out.put(left, 0);
+    out.put(right, 1);
+    let said = divide_after(by, 2, counted(had), out);
     recounted(had, said)
 }
 
@@ -75,31 +69,33 @@ fn fill_space(
 pub fn fill_pair(
     p: Prepared,
     had: u64,
-    chord: f64,
-    axis: f64,
+    tol: Tolerances,
     left: Item,
     right: Item,
     poses: &mut [f64],
     joints: &mut [f64],
 ) -> Result<u64, Stop>
-    ensures answer { result ≡ divided_in (S.filled p had chord axis left right poses.old joints.old) }
-    ensures poses { poses.new ≡ poses_over (S.filled p had chord axis left right poses.old joints.old) poses.old }
-    ensures joints { joints.new ≡ joints_over (S.filled p had chord axis left right poses.old joints.old) joints.old }
+    ensures answer { result ≡ divided_in (S.filled p had tol.chord tol.axis left right poses.old joints.old) }
+    ensures poses { poses.new ≡ poses_over (S.filled p had tol.chord tol.axis left right poses.old joints.old) poses.old }
+    ensures joints { joints.new ≡ joints_over (S.filled p had tol.chord tol.axis left right poses.old joints.old) joints.old }
 {
     let space = space_in(poses.len(), joints.len());
     if space < 2 {
         return without_space(had, poses, joints);
     }
-    let tol = Tolerances { chord, axis };
-    fill_space(p, tol, space, had, left, right, poses, joints)
+    let by = Setting { p, tol };
+    let mut out = Outputs {
+        space,
+        poses,
+        joints,
+    };
+    fill_space(&by, had, left, right, &mut out)
 }
 
 fn count_in(said: Result<u64, Stop>) -> u64
     ensures { result ≡ S.count_in said }
 {
-    match said {
-        Ok(n) | Err(Stop::TooMany(n) | Stop::NoSpace(n)) => n,
-    }
+    said.unwrap_or_else(Stop::inserted)
 }
 
 // The same over a lent record, which keeps the count, on refusals too.
@@ -116,16 +112,7 @@ pub fn fill(
     ensures poses { poses.new ≡ poses_over (S.filling job.old p left right poses.old joints.old) poses.old }
     ensures joints { joints.new ≡ joints_over (S.filling job.old p left right poses.old joints.old) joints.old }
 {
-    let said = fill_pair(
-        p,
-        job.inserted,
-        job.chord,
-        job.axis,
-        left,
-        right,
-        poses,
-        joints,
-    );
+    let said = fill_pair(p, job.inserted, job.tol, left, right, poses, joints);
     job.inserted = count_in(said);
     said
 }

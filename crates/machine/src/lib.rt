@@ -9,11 +9,11 @@ mod filling;
 
 pub use dividing::{divide_given, divide_solved};
 pub use filling::{fill, fill_pair};
+use middle::Tolerances;
 
 // What the pairs of one path share: the poses inserted so far, and the tolerances (Subdiv of the Rust).
 #[derive(Clone, Copy)]
 pub struct Subdiv {
     pub inserted: u64,
-    pub chord: f64,
-    pub axis: f64,
+    pub tol: Tolerances,
 }

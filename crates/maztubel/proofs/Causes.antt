@@ -31,10 +31,10 @@ use Rattle.inverse.specs.Subproblem.{shortest}
 use Rattle.inverse.specs.AxisMap.{axis_map_of}
 use Rattle.inverse.specs.declared.Angles.{Angles}
 use Rattle.path.specs.declared.Bounds.{Bounds}
-use Rattle.path.specs.declared.Ranked.{Ranked}
+use Rattle.inverse.specs.declared.Ranked.{Ranked}
 use Rattle.path.specs.declared.Setup.{Setup}
 use Rattle.path.specs.declared.SingularFrame.{SingularFrame}
-use Rattle.path.specs.Unwinding.{different_branch, inside}
+use Rattle.path.specs.Unwinding.{different_branch, inside, has_second}
 use Rattle.path.specs.Singular.{in_singular_cone, nearest_pole}
 use Rattle.path.specs.Locking.{refused, within_limits, finite_position, placed_at, locked_joints, strays, limited, unless_straying, cone_solution}
 use Rattle.path.specs.Exact.{angles_of, position_finite, ranked, ranks_before, closest_or_other, of_ranked, alone, both, of_candidates, of_positions, of_raw, exact_pose}
@@ -83,7 +83,7 @@ causes (c ∷ []) h = h.0
 causes (c ∷ d ∷ l) h = then_cause c (first_refusal (d ∷ l)) h.0 (causes (d ∷ l) h.1)
 
 -- ---- a chain
-rotary_cause : (j : RotaryJoint) (earlier i : ℕ) → CheckCause (rotary_check j earlier i)
+rotary_cause : (j : RotaryJoint) (earlier : Option ℕ) (i : ℕ) → CheckCause (rotary_check j earlier i)
 unfolding rotary_check
 rotary_cause j earlier i =
     causes
@@ -116,16 +116,16 @@ unfolding chain_check second_check
 chain_cause k =
     causes
     (demand (one_or_two k.count) Cause.RotaryCount 0
-    ∷ rotary_check k.first 0 0
+    ∷ rotary_check k.first None 0
     ∷ second_check k
     ∷ demand (all_finite k.spindle_axis) Cause.ChainNotFinite 0
     ∷ demand (has_direction k.spindle_axis) Cause.SpindleZero 0
     ∷ []) (
       demand_cause (one_or_two k.count) Cause.RotaryCount 0 refl,
       (
-        rotary_cause k.first 0 0,
+        rotary_cause k.first None 0,
         (
-          cond_cause (eqb k.count 2) (rotary_check k.second k.first.letter 1) (Ok tt) (rotary_cause k.second k.first.letter 1) tt,
+          cond_cause (eqb k.count 2) (rotary_check k.second (Some k.first.letter) 1) (Ok tt) (rotary_cause k.second (Some k.first.letter) 1) tt,
           (
             demand_cause (all_finite k.spindle_axis) Cause.ChainNotFinite 0 refl,
             (demand_cause (has_direction k.spindle_axis) Cause.SpindleZero 0 refl, tt),
@@ -221,7 +221,7 @@ closest_cause : (b : Bounds) (c o : Joints) → PoseCause (closest_or_other b c 
 unfolding closest_or_other
 closest_cause b c o =
     cond_pose (inside b c) (Ok c) _ tt
-    (cond_pose (inside b o) _ (within_limits b c) (cond_pose (different_branch b.two o c) (refused Cause.BranchFlips) (Ok o) refl tt) (limits_cause b c))
+    (cond_pose (inside b o) _ (within_limits b c) (cond_pose (different_branch (has_second b) o c) (refused Cause.BranchFlips) (Ok o) refl tt) (limits_cause b c))
 
 ranked_cause : (b : Bounds) (r q : Ranked) → PoseCause (of_ranked b r q)
 unfolding of_ranked
@@ -229,7 +229,7 @@ ranked_cause b r q = cond_pose (ranks_before q r) _ _ (closest_cause b q.joints 
 
 candidates_cause : (b : Bounds) (previous : Angles) (c d : Option Joints) → PoseCause (of_candidates b previous c d)
 unfolding both alone
-candidates_cause b previous (Some j) (Some k) = ranked_cause b (ranked b.two previous j) (ranked b.two previous k)
+candidates_cause b previous (Some j) (Some k) = ranked_cause b (ranked (has_second b) previous j) (ranked (has_second b) previous k)
 candidates_cause b previous (Some j) None = limits_cause b _
 candidates_cause b previous None (Some k) = limits_cause b _
 candidates_cause b previous None None = refl

@@ -1,9 +1,8 @@
 -- The two entries that divide, behind the bytes of their chain: each way out is what the definition says, and keeps the promise.
 use Prim.Native.Nat.{ℕ}
 use mathlib.Core.Path.{◌≡◌, refl, sym, ◌∙◌, subst}
-use mathlib.Core.Bool.{Bool, true, false, not, false≢true}
+use mathlib.Core.Bool.{Bool, true, false, false≢true}
 use mathlib.Core.List.{List}
-use borrow.Author.Tests.{not-true, not-false}
 use lib.ListN.{length}
 use lib.Ieee.{Float}
 use Rattle.std.specs.Prelude.{Err, Ok, Result}
@@ -21,6 +20,9 @@ use Rattle.divide.proofs.PriceLent.{refused_price}
 use Rattle.divide.proofs.Later.{refused_later}
 use Rattle.maztubel.specs.PathEntries.{start_in}
 use Rattle.maztubel.specs.DivideEntries.{lengths_refused, subdivide_of, SubdividePromise, both_lengths, both_of, BothPromise}
+
+abbrev pub refused_by : Refusal → Division
+refused_by r = Err (DivisionError.Refused r)
 
 -- ---- division
 -- records that are not whole are refused by division's own first check, so nothing was begun
@@ -48,17 +50,16 @@ module _ (chain : List ℕ) (tol : Tolerances) (lent solved p₀ j₀ : List Flo
   abbrev Both : Kinematics → Division → List Float → List Float → Type 0
   Both k said poses joints = IfSolved k tol lent solved (length p₀) (length j₀) said poses joints × Later k tol lent solved (length p₀) (length j₀) said poses joints
 
-  pub subdivide_lengths : {said : Division} → not (four_whole (length lent) (length solved) (length p₀) (length j₀)) ≡ true → said ≡ lengths_refused → So said p₀ j₀
+  pub subdivide_lengths : {said : Division} → four_whole (length lent) (length solved) (length p₀) (length j₀) ≡ false → said ≡ lengths_refused → So said p₀ j₀
   unfolding subdivide_of poses_left joints_left
   subdivide_lengths e s =
-      let w = not-true (four_whole (length lent) (length solved) (length p₀) (length j₀)) e in
-      (rw e s, (rw e, (rw e, rw e (refused_promise (read_chain chain) tol lent solved (length p₀) (length j₀) p₀ j₀ w refl))))
+      (rw e s, (rw e, (rw e, rw e (refused_promise (read_chain chain) tol lent solved (length p₀) (length j₀) p₀ j₀ e refl))))
 
-  pub subdivide_bytes : {r : Refusal} → not (four_whole (length lent) (length solved) (length p₀) (length j₀)) ≡ false → read_chain chain ≡ Err r → So (Err (DivisionError.Refused r)) p₀ j₀
+  pub subdivide_bytes : {r : Refusal} → four_whole (length lent) (length solved) (length p₀) (length j₀) ≡ true → read_chain chain ≡ Err r → So (Err (DivisionError.Refused r)) p₀ j₀
   unfolding subdivide_of poses_left joints_left
   subdivide_bytes e f = (rw (e, f), (rw (e, f), (rw (e, f), rw (e, f) tt)))
 
-  pub subdivide_chain : {k : Kinematics} {said : Division} {poses joints : List Float} → not (four_whole (length lent) (length solved) (length p₀) (length j₀)) ≡ false
+  pub subdivide_chain : {k : Kinematics} {said : Division} {poses joints : List Float} → four_whole (length lent) (length solved) (length p₀) (length j₀) ≡ true
       → read_chain chain ≡ Ok k
       → (said ≡ division_in (subdivide_path k tol lent solved (length p₀) (length j₀)))
       × ((poses ≡ poses_left (subdivide_path k tol lent solved (length p₀) (length j₀)) p₀)
@@ -84,23 +85,22 @@ module _ (chain : List ℕ) (lent start : List Float) (cone : Float) (tol : Tole
       × ((poses ≡ poses_left both p₀)
       × ((joints ≡ joints_left both j₀) × BothPromise good (read_chain chain) lent (start_in start) cone tol (division_in both) p₀ j₀ poses joints))
 
-  pub both_lengths_bad : {said : Division} → not good ≡ true → said ≡ lengths_refused → BothSo said p₀ j₀
+  pub both_lengths_bad : {said : Division} → good ≡ false → said ≡ lengths_refused → BothSo said p₀ j₀
   unfolding both_of poses_left joints_left
-  both_lengths_bad e s = let g = not-true good e in (rw e s, (rw e, (rw e, rw g tt)))
+  both_lengths_bad e s = (rw e s, (rw e, (rw e, rw e tt)))
 
-  pub both_bytes : {r : Refusal} → not good ≡ false → read_chain chain ≡ Err r → BothSo (Err (DivisionError.Refused r)) p₀ j₀
+  pub both_bytes : {r : Refusal} → good ≡ true → read_chain chain ≡ Err r → BothSo (Err (DivisionError.Refused r)) p₀ j₀
   unfolding both_of poses_left joints_left
-  both_bytes e f = let g = not-false good e in (rw (e, f), (rw (e, f), (rw (e, f), rw (g, f) tt)))
+  both_bytes e f = (rw (e, f), (rw (e, f), (rw (e, f), rw (e, f) tt)))
 
-  pub both_chain : {k : Kinematics} {said : Division} {poses joints : List Float} → not good ≡ false → read_chain chain ≡ Ok k
+  pub both_chain : {k : Kinematics} {said : Division} {poses joints : List Float} → good ≡ true → read_chain chain ≡ Ok k
       → (said ≡ division_in (solve_and_divide k lent (start_in start) cone tol (length p₀) (length j₀)))
       × ((poses ≡ poses_left (solve_and_divide k lent (start_in start) cone tol (length p₀) (length j₀)) p₀)
       × ((joints ≡ joints_left (solve_and_divide k lent (start_in start) cone tol (length p₀) (length j₀)) j₀)
       × SolvedAndDivided k lent (start_in start) cone tol said p₀ j₀ poses joints))
       → BothSo said poses joints
   unfolding both_of
-  both_chain {k} {said} {poses} {joints} e f h =
-      let g = not-false good e in (
-        rw (e, f) h.0,
-        (rw (e, f) h.1.0, (rw (e, f) h.1.1.0, rw (e, g, f) (subst (λ (z : Division). SolvedAndDivided k lent (start_in start) cone tol z p₀ j₀ poses joints) h.0 h.1.1.1))),
-      )
+  both_chain {k} {said} {poses} {joints} e f h = (
+    rw (e, f) h.0,
+    (rw (e, f) h.1.0, (rw (e, f) h.1.1.0, rw (e, f) (subst (λ (z : Division). SolvedAndDivided k lent (start_in start) cone tol z p₀ j₀ poses joints) h.0 h.1.1.1))),
+  )

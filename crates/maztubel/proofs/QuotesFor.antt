@@ -46,6 +46,9 @@ module _ (tol : Tolerances) (poses joints : List Float) (roomJoints roomTips : �
   quote_promised chain = by_read (read_chain chain)
 
 -- ---- each way out is what the definition says
+abbrev pub refused_by : Refusal → Quote
+refused_by r = Err (QuoteError.Refused r)
+
 module _ (chain : List ℕ) (tol : Tolerances) (poses joints j₀ t₀ : List Float) where
   abbrev whole : Bool
   whole = quote_whole (length poses) (length joints) (length j₀) (length t₀)
@@ -54,15 +57,15 @@ module _ (chain : List ℕ) (tol : Tolerances) (poses joints j₀ t₀ : List Fl
   So said scratchJoints scratchTips =
       (said ≡ quote_of chain tol poses joints (length j₀) (length t₀)) × ((scratchJoints ≡ scratch_left said j₀) × (scratchTips ≡ scratch_left said t₀))
 
-  pub quote_lengths : {r : Refusal} → not whole ≡ true → r ≡ refusal Cause.LengthsDiffer 0 → So (Err (QuoteError.Refused r)) j₀ t₀
+  pub quote_lengths : {said : Quote} → whole ≡ false → said ≡ Err (QuoteError.Refused (refusal Cause.LengthsDiffer 0)) → So said j₀ t₀
   unfolding quote_of scratch_left
-  quote_lengths e n = rw n (rw e, (refl, refl))
+  quote_lengths e s = rw s (rw e, (refl, refl))
 
-  pub quote_bytes : {r : Refusal} {said : Quote} → not whole ≡ false → read_chain chain ≡ Err r → said ≡ Err (QuoteError.Refused r) → So said j₀ t₀
+  pub quote_bytes : {r : Refusal} {said : Quote} → whole ≡ true → read_chain chain ≡ Err r → said ≡ Err (QuoteError.Refused r) → So said j₀ t₀
   unfolding quote_of scratch_left
   quote_bytes e f s = rw s (rw (e, f), (refl, refl))
 
-  pub quote_chain : {k : Kinematics} {said : Quote} {scratchJoints scratchTips : List Float} → not whole ≡ false → read_chain chain ≡ Ok k
+  pub quote_chain : {k : Kinematics} {said : Quote} {scratchJoints scratchTips : List Float} → whole ≡ true → read_chain chain ≡ Ok k
       → said ≡ quote_path k tol poses joints (length j₀) (length t₀) → scratchJoints ≡ scratch_left (quote_path k tol poses joints (length j₀) (length t₀)) j₀
       → scratchTips ≡ scratch_left (quote_path k tol poses joints (length j₀) (length t₀)) t₀ → So said scratchJoints scratchTips
   unfolding quote_of

@@ -2,12 +2,13 @@
 -- promise.
 use Prim.Native.Nat.{ℕ, ◌%◌}
 use native.Mathlib.Omega.{arith}
-use mathlib.Core.Path.{◌≡◌}
+use mathlib.Core.Path.{◌≡◌, sym, ◌∙◌}
+use mathlib.Core.Bool.{true, false, false≢true}
 use mathlib.Core.List.{List}
-use borrow.Author.Tests.{eq-eqb, ne_eqb}
+use borrow.Author.Tests.{eq-eqb}
 use lib.ListN.{length}
 use lib.Ieee.{Float}
-use Rattle.std.specs.Prelude.{Err, Ok, Result}
+use Rattle.std.specs.Prelude.{eqb, Err, Ok, Result}
 use Rattle.refusal.specs.Numbers.{refusal}
 use Rattle.refusal.specs.declared.Cause.{Cause}
 use Rattle.refusal.specs.declared.Refusal.{Refusal}
@@ -17,6 +18,9 @@ use Rattle.middle.specs.declared.Tolerances.{Tolerances}
 use Rattle.writer.specs.Checking.{written_answer, written_job, ReadBack, Rewritten}
 use Rattle.writer.proofs.Passing.{accepted}
 use Rattle.maztubel.specs.WriteEntries.{write_of, job_left, WritePromise}
+
+abbrev pub refused_by : Refusal → Result ℕ Refusal
+refused_by r = Err r
 
 -- broken records are never written
 none_promised : (read : Result Kinematics Refusal) (poses : List Float) (cone : Float) (tol : Tolerances) (room : ℕ) → (length poses % 6 ≡ 0 → ⊥) → WritePromise read poses cone tol room
@@ -29,16 +33,16 @@ module _ (chain : List ℕ) (poses : List Float) (cone : Float) (tol : Tolerance
   So said out =
       (said ≡ write_of chain poses cone tol (length o)) × ((out ≡ job_left chain poses cone tol o) × WritePromise (read_chain chain) poses cone tol (length o))
 
-  pub write_lengths : (length poses % 6 ≡ 0 → ⊥) → So (Err (refusal Cause.LengthsDiffer 0)) o
+  pub write_lengths : {said : Result ℕ Refusal} → eqb (length poses % 6) 0 ≡ false → said ≡ Err (refusal Cause.LengthsDiffer 0) → So said o
   unfolding write_of job_left
-  write_lengths h = let e = ne_eqb _ _ h in (rw e, (rw e, none_promised (read_chain chain) poses cone tol (length o) h))
+  write_lengths e s = (rw e s, (rw e, none_promised (read_chain chain) poses cone tol (length o) (λ h. absurd (false≢true (sym e ∙ eq-eqb _ _ h)))))
 
-  pub write_bytes : {r : Refusal} → length poses % 6 ≡ 0 → read_chain chain ≡ Err r → So (Err r) o
+  pub write_bytes : {r : Refusal} → eqb (length poses % 6) 0 ≡ true → read_chain chain ≡ Err r → So (Err r) o
   unfolding write_of job_left
-  write_bytes h f = let e = eq-eqb _ _ h in (rw (e, f), (rw (e, f), rw f tt))
+  write_bytes e f = (rw (e, f), (rw (e, f), rw f tt))
 
-  pub write_chain : {k : Kinematics} {said : Result ℕ Refusal} {out : List ℕ} → length poses % 6 ≡ 0 → read_chain chain ≡ Ok k
+  pub write_chain : {k : Kinematics} {said : Result ℕ Refusal} {out : List ℕ} → eqb (length poses % 6) 0 ≡ true → read_chain chain ≡ Ok k
       → (said ≡ written_answer k poses cone tol (length o)) × ((out ≡ written_job k poses cone tol o) × (ReadBack k poses cone tol (length o) × Rewritten k poses cone tol (length o)))
       → So said out
   unfolding write_of job_left
-  write_chain h f w = let e = eq-eqb _ _ h in (rw (e, f) w.0, (rw (e, f) w.1.0, rw f w.1.1))
+  write_chain e f w = (rw (e, f) w.0, (rw (e, f) w.1.0, rw f w.1.1))

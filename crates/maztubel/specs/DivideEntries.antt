@@ -1,6 +1,7 @@
 -- What the two entries that divide answer, from the bytes and numbers that they are lent: first 20, then 29, then the checks of `divide`.
 use Rattle.std.specs.Prelude.{ℕ, ◌≡◌, ◌↔◌, Bool, true, false, not, cond, ◌&&◌, List, length, Float, Err, Ok, Option, Result}
 use Rattle.turn.specs.declared.Stop.{Stop}
+use Rattle.turn.specs.Stops.{cause_of, inserted_before}
 use Rattle.refusal.specs.declared.Refusal.{Refusal}
 use Rattle.refusal.specs.Numbers.{refusal, served, number_of}
 use Rattle.refusal.specs.declared.Cause.{Cause}
@@ -17,12 +18,10 @@ use Rattle.maztubel.specs.PathEntries.{start_good, start_in}
 
 -- ---- an answer's number, its place and letter, and how many poses were inserted: at 27 and 28 the count so far
 abbrev pub stop_number : Stop → ℕ
-stop_number (Stop.TooMany n) = number_of Cause.TooManyInsertions
-stop_number (Stop.NoSpace n) = number_of Cause.NoSpace
+stop_number s = number_of (cause_of s)
 
 abbrev pub stop_count : Stop → ℕ
-stop_count (Stop.TooMany n) = n
-stop_count (Stop.NoSpace n) = n
+stop_count s = inserted_before s
 
 abbrev pub division_number : Division → ℕ
 division_number (Ok n) = served

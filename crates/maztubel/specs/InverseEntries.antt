@@ -1,5 +1,5 @@
 -- What the entries of the inverse map answer, from the bytes and numbers that they are lent: first 20, then 29, then the list of checks of `inverse`. With 21 and 22 every lent answer is +0.0; every other refusal keeps it.
-use Rattle.std.specs.Prelude.{ℕ, ◌+◌, Bool, true, false, ◌&&◌, cond, List, [], ◌∷◌, eqb, ltb, length, get_or, set, replicate, Float, Err, Ok, Result}
+use Rattle.std.specs.Prelude.{ℕ, Bool, true, false, ◌&&◌, cond, List, [], ◌∷◌, eqb, ltb, length, get_or, replicate, Float, Err, Ok, Result}
 use Rattle.std.specs.Float.{nan}
 use Rattle.lists.specs.Padding.{padded}
 use Rattle.lists.specs.Rows.{flat}
@@ -18,7 +18,6 @@ use Rattle.inverse.specs.Solutions.{nowhere}
 use Rattle.inverse.specs.Wraps.{angles_of}
 use Rattle.inverse.specs.Inverse.{Answers, inverse}
 use Rattle.inverse.specs.Choose.{choose}
-use Rattle.maztubel.specs.Lent.{vector_over}
 
 -- ---- what is lent to be read
 -- six numbers: the tip, then the axis
@@ -97,7 +96,3 @@ count_over (Err r) before = cond (clears r) 0 before
 abbrev pub joints_over : Result Joints Refusal → List Float → List Float
 joints_over (Ok j) before = cond (eqb (length before) 5) (joint_numbers j) before
 joints_over (Err r) before = cond (clears r) (replicate (length before) nought) before
-
--- one joint set, from an index on
-unfoldable pub set_over : Joints → List Float → ℕ → List Float
-set_over j numbers at = set (set (vector_over j.xyz numbers at) (at + 3) j.a0) (at + 4) j.a1

@@ -29,10 +29,10 @@ abbrev pub cone_over : Result Job Refusal → Float → Float
 cone_over = over (λ (j : Job). j.cone)
 
 abbrev pub chord_over : Result Job Refusal → Float → Float
-chord_over = over (λ (j : Job). j.chord)
+chord_over = over (λ (j : Job). j.tol.chord)
 
 abbrev pub axis_over : Result Job Refusal → Float → Float
-axis_over = over (λ (j : Job). j.axis)
+axis_over = over (λ (j : Job). j.tol.axis)
 
 -- the chain's bytes, which a caller takes from the job by these numbers, are read as the job's chain by every entry
 abbrev pub ChainPromise : List ℕ → Result Job Refusal → Type 0

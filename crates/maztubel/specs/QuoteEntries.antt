@@ -9,6 +9,7 @@ use Rattle.chain.specs.Checked.{Checked}
 use Rattle.chain.specs.ChainBytes.{read_chain}
 use Rattle.path.specs.Solving.{whole_records}
 use Rattle.middle.specs.declared.Tolerances.{Tolerances}
+use Rattle.turn.specs.Stops.{cause_of, inserted_before}
 use Rattle.quote.specs.declared.Figures.{Figures}
 use Rattle.quote.specs.declared.QuoteError.{QuoteError}
 use Rattle.quote.specs.Quotation.{Quote, figures, scratch_whole, quote_path}
@@ -21,18 +22,16 @@ refused_by cause = Err (refusal cause 0)
 
 abbrev pub refusal_in : Quote → Checked
 refusal_in (Err (QuoteError.Refused r)) = Err r
-refusal_in (Err QuoteError.NoSpace) = refused_by Cause.NoSpace
-refusal_in (Err (QuoteError.TooMany n)) = refused_by Cause.TooManyInsertions
+refusal_in (Err (QuoteError.Stopped s)) = refused_by (cause_of s)
 refusal_in (Ok f) = Ok tt
 
--- its figures: with a refusal 0, but for the count so far at 27
+-- its figures: with a refusal 0, but for the count so far at 27 (at 28 it is 0, by `AsDivided`)
 abbrev pub count_alone : ℕ → Figures
 count_alone inserted = figures inserted 0 0
 
 abbrev pub figures_in : Quote → Figures
 figures_in (Err (QuoteError.Refused r)) = count_alone 0
-figures_in (Err QuoteError.NoSpace) = count_alone 0
-figures_in (Err (QuoteError.TooMany n)) = count_alone n
+figures_in (Err (QuoteError.Stopped s)) = count_alone (inserted_before s)
 figures_in (Ok f) = f
 
 -- what is returned, and what stands in the lent figures, place and letter

@@ -4,8 +4,8 @@ ghost use Rattle.std.specs.Prelude.{◌≡◌, length};
 ghost use Rattle.maztubel.specs.Lent as Lent;
 ghost use Rattle.maztubel.specs.ChainEntries as S;
 
-use crate::lent::{hand_back, joints_in, put_vector};
-use chain::ToolPose;
+use crate::lent::{hand_back, put_vector};
+use chain::{ToolPose, demand};
 use refusal::{Cause, Refusal};
 
 pub fn maztubel_check_chain(chain: &[u8], at: &mut u64, letter: &mut u8) -> u32
@@ -45,7 +45,7 @@ fn check_chain(bytes: &[u8]) -> Result<(), Refusal>
     chain::chain_sizes(k)
 }
 
-#[tactic(auto, unfolding(crate::specs::ChainEntries::forward_of))]
+#[tactic(auto, unfolding(crate::specs::ChainEntries::forward_of, crate::specs::Lent::joints_in, turn::specs::Items::joints_in))]
 fn forward_of(
     chain: &[u8],
     joints: &[f64],
@@ -54,10 +54,8 @@ fn forward_of(
 ) -> Result<ToolPose, Refusal>
     ensures { result ≡ S.forward_of chain.now joints.now tool_length room }
 {
-    if joints.len() != 5 || room != 6 {
-        return Err(Refusal::new(Cause::LengthsDiffer, 0));
-    }
-    chain::forward_from(chain, joints_in(joints), tool_length)
+    demand(joints.len() == 5 && room == 6, Cause::LengthsDiffer, 0)?;
+    chain::forward_from(chain, turn::joints_in(joints, 0), tool_length)
 }
 
 // Writes a pose where there is one, and six numbers' room for it.

@@ -2,17 +2,18 @@
 // refuses before its first test keeps both outputs, and so does what the second refuses before its first pose; every
 // other refusal leaves +0.0 in both.
 ghost use Rattle.std.specs.Prelude.{◌≡◌, length};
-ghost use Rattle.refusal.specs.Numbers.{number_of};
 ghost use Rattle.chain.specs.ChainBytes.{read_chain};
 ghost use Rattle.divide.specs.Subdividing.{division_in, poses_left, joints_left};
+ghost use Rattle.maztubel.specs.Lent as Lent;
 ghost use Rattle.maztubel.specs.PathEntries.{start_in};
 ghost use Rattle.maztubel.specs.DivideEntries as S;
 
+use crate::lent::hand_back;
 use crate::path_entries::{start_good, start_in};
+use chain::demand;
 use divide::DivisionError;
 use middle::Tolerances;
 use refusal::{Cause, Refusal};
-use turn::Stop;
 
 #[tactic(auto, using(crate::proofs::Causes::subdivide_says))]
 pub fn maztubel_subdivide_path(
@@ -36,7 +37,8 @@ pub fn maztubel_subdivide_path(
     ensures price { S.SubdividePromise (read_chain chain.now) (S.tolerances chord axis) poses.now joints.now (length out_poses.old) (length out_joints.old) (division_in (S.subdivide_of chain.now (S.tolerances chord axis) poses.now joints.now (length out_poses.old) (length out_joints.old))) out_poses.new out_joints.new }
     ensures says { S.Says result (division_in (S.subdivide_of chain.now (S.tolerances chord axis) poses.now joints.now (length out_poses.old) (length out_joints.old))) }
 {
-    let said = subdivide_of(chain, poses, joints, chord, axis, out_poses, out_joints);
+    let tol = Tolerances { chord, axis };
+    let said = subdivide_of(chain, tol, poses, joints, out_poses, out_joints);
     hand_over(said, inserted, at, letter)
 }
 
@@ -63,40 +65,9 @@ pub fn maztubel_solve_and_divide(
     ensures price { S.BothPromise (S.both_lengths (length poses.now) (length start.now) (length out_poses.old) (length out_joints.old)) (read_chain chain.now) poses.now (start_in start.now) cone (S.tolerances chord axis) (division_in (S.both_of chain.now poses.now start.now cone (S.tolerances chord axis) (length out_poses.old) (length out_joints.old))) out_poses.old out_joints.old out_poses.new out_joints.new }
     ensures says { S.Says result (division_in (S.both_of chain.now poses.now start.now cone (S.tolerances chord axis) (length out_poses.old) (length out_joints.old))) }
 {
-    let said = both_of(
-        chain, poses, start, cone, chord, axis, out_poses, out_joints,
-    );
+    let tol = Tolerances { chord, axis };
+    let said = both_of(chain, poses, start, cone, tol, out_poses, out_joints);
     hand_over(said, inserted, at, letter)
-}
-
-fn stop_number(stop: Stop) -> u32
-    ensures { result ≡ S.stop_number stop }
-{
-    match stop {
-        Stop::TooMany(_) => Cause::TooManyInsertions.number(),
-        Stop::NoSpace(_) => Cause::NoSpace.number(),
-    }
-}
-
-fn stop_count(stop: Stop) -> u64
-    ensures { result ≡ S.stop_count stop }
-{
-    match stop {
-        Stop::TooMany(n) | Stop::NoSpace(n) => n,
-    }
-}
-
-// A refusal's number, its place and letter written.
-fn hand_refusal(r: Refusal, inserted: &mut u64, at: &mut u64, letter: &mut u8) -> u32
-    ensures number { result ≡ number_of r.cause }
-    ensures count { inserted.new ≡ 0 }
-    ensures place { at.new ≡ r.at }
-    ensures named { letter.new ≡ r.letter }
-{
-    *inserted = 0;
-    *at = r.at;
-    *letter = r.letter;
-    r.cause.number()
 }
 
 // The number, and the count, place and letter written.
@@ -111,54 +82,54 @@ pub fn hand_over(
     ensures place { at.new ≡ S.division_place said }
     ensures named { letter.new ≡ S.division_letter said }
 {
+    *inserted = inserted_in(said);
+    hand_back(&refusal_in(said), at, letter)
+}
+
+fn inserted_in(said: Result<u64, DivisionError>) -> u64
+    ensures { result ≡ S.inserted_in said }
+{
     match said {
-        Ok(n) => {
-            *inserted = n;
-            *at = 0;
-            *letter = 0;
-            0
-        }
-        Err(DivisionError::Refused(r) | DivisionError::AtPose(r)) => {
-            hand_refusal(r, inserted, at, letter)
-        }
-        Err(DivisionError::Stopped(stop)) => {
-            *inserted = stop_count(stop);
-            *at = 0;
-            *letter = 0;
-            stop_number(stop)
-        }
+        Ok(n) => n,
+        Err(DivisionError::Refused(_) | DivisionError::AtPose(_)) => 0,
+        Err(DivisionError::Stopped(stop)) => stop.inserted(),
     }
 }
 
-fn lengths_refused() -> Result<u64, DivisionError>
-    ensures { result ≡ S.lengths_refused }
+// Of a division that stopped, its cause alone.
+fn refusal_in(said: Result<u64, DivisionError>) -> Result<(), Refusal>
+    ensures number { Lent.number_in result ≡ S.division_number said }
+    ensures place { Lent.place_in result ≡ S.division_place said }
+    ensures named { Lent.letter_in result ≡ S.division_letter said }
 {
-    Err(DivisionError::Refused(Refusal::new(Cause::LengthsDiffer, 0)))
+    match said {
+        Ok(_) => Ok(()),
+        Err(DivisionError::Refused(r) | DivisionError::AtPose(r)) => Err(r),
+        Err(DivisionError::Stopped(stop)) => Err(Refusal::new(stop.cause(), 0)),
+    }
 }
 
 pub fn subdivide_of(
     chain: &[u8],
+    tol: Tolerances,
     poses: &[f64],
     joints: &[f64],
-    chord: f64,
-    axis: f64,
     out_poses: &mut [f64],
     out_joints: &mut [f64],
 ) -> Result<u64, DivisionError>
-    ensures answer { result ≡ division_in (S.subdivide_of chain.now (S.tolerances chord axis) poses.now joints.now (length out_poses.old) (length out_joints.old)) }
-    ensures poses { out_poses.new ≡ poses_left (S.subdivide_of chain.now (S.tolerances chord axis) poses.now joints.now (length out_poses.old) (length out_joints.old)) out_poses.old }
-    ensures joints { out_joints.new ≡ joints_left (S.subdivide_of chain.now (S.tolerances chord axis) poses.now joints.now (length out_poses.old) (length out_joints.old)) out_joints.old }
-    ensures price { S.SubdividePromise (read_chain chain.now) (S.tolerances chord axis) poses.now joints.now (length out_poses.old) (length out_joints.old) (division_in (S.subdivide_of chain.now (S.tolerances chord axis) poses.now joints.now (length out_poses.old) (length out_joints.old))) out_poses.new out_joints.new }
+    ensures answer { result ≡ division_in (S.subdivide_of chain.now tol poses.now joints.now (length out_poses.old) (length out_joints.old)) }
+    ensures poses { out_poses.new ≡ poses_left (S.subdivide_of chain.now tol poses.now joints.now (length out_poses.old) (length out_joints.old)) out_poses.old }
+    ensures joints { out_joints.new ≡ joints_left (S.subdivide_of chain.now tol poses.now joints.now (length out_poses.old) (length out_joints.old)) out_joints.old }
+    ensures price { S.SubdividePromise (read_chain chain.now) tol poses.now joints.now (length out_poses.old) (length out_joints.old) (division_in (S.subdivide_of chain.now tol poses.now joints.now (length out_poses.old) (length out_joints.old))) out_poses.new out_joints.new }
 {
-    if !divide::four_whole(poses.len(), joints.len(), out_poses.len(), out_joints.len()) {
-        return lengths_refused();
-    }
+    let whole = divide::four_whole(poses.len(), joints.len(), out_poses.len(), out_joints.len());
+    demand(whole, Cause::LengthsDiffer, 0)?;
     let k = chain::read_chain(chain)?;
-    let tol = Tolerances { chord, axis };
     divide::subdivide_path(k, tol, poses, joints, out_poses, out_joints)
 }
 
-// The records are whole, and the start is five numbers or none.
+// The records are whole, and the start is five numbers or none. The two rooms by themselves, as C lends the outputs: a
+// struct of both would be made for this test alone.
 #[tactic(auto, unfolding(crate::specs::DivideEntries::both_lengths))]
 fn both_lengths(poses: usize, start: usize, room_poses: usize, room_joints: usize) -> bool
     ensures { result ≡ S.both_lengths poses start room_poses room_joints }
@@ -171,20 +142,17 @@ fn both_of(
     poses: &[f64],
     start: &[f64],
     cone: f64,
-    chord: f64,
-    axis: f64,
+    tol: Tolerances,
     out_poses: &mut [f64],
     out_joints: &mut [f64],
 ) -> Result<u64, DivisionError>
-    ensures answer { result ≡ division_in (S.both_of chain.now poses.now start.now cone (S.tolerances chord axis) (length out_poses.old) (length out_joints.old)) }
-    ensures poses { out_poses.new ≡ poses_left (S.both_of chain.now poses.now start.now cone (S.tolerances chord axis) (length out_poses.old) (length out_joints.old)) out_poses.old }
-    ensures joints { out_joints.new ≡ joints_left (S.both_of chain.now poses.now start.now cone (S.tolerances chord axis) (length out_poses.old) (length out_joints.old)) out_joints.old }
-    ensures price { S.BothPromise (S.both_lengths (length poses.now) (length start.now) (length out_poses.old) (length out_joints.old)) (read_chain chain.now) poses.now (start_in start.now) cone (S.tolerances chord axis) (division_in (S.both_of chain.now poses.now start.now cone (S.tolerances chord axis) (length out_poses.old) (length out_joints.old))) out_poses.old out_joints.old out_poses.new out_joints.new }
+    ensures answer { result ≡ division_in (S.both_of chain.now poses.now start.now cone tol (length out_poses.old) (length out_joints.old)) }
+    ensures poses { out_poses.new ≡ poses_left (S.both_of chain.now poses.now start.now cone tol (length out_poses.old) (length out_joints.old)) out_poses.old }
+    ensures joints { out_joints.new ≡ joints_left (S.both_of chain.now poses.now start.now cone tol (length out_poses.old) (length out_joints.old)) out_joints.old }
+    ensures price { S.BothPromise (S.both_lengths (length poses.now) (length start.now) (length out_poses.old) (length out_joints.old)) (read_chain chain.now) poses.now (start_in start.now) cone tol (division_in (S.both_of chain.now poses.now start.now cone tol (length out_poses.old) (length out_joints.old))) out_poses.old out_joints.old out_poses.new out_joints.new }
 {
-    if !both_lengths(poses.len(), start.len(), out_poses.len(), out_joints.len()) {
-        return lengths_refused();
-    }
+    let whole = both_lengths(poses.len(), start.len(), out_poses.len(), out_joints.len());
+    demand(whole, Cause::LengthsDiffer, 0)?;
     let k = chain::read_chain(chain)?;
-    let tol = Tolerances { chord, axis };
     divide::solve_and_divide(k, poses, start_in(start), cone, tol, out_poses, out_joints)
 }

@@ -4,10 +4,10 @@ ghost use Rattle.std.specs.Prelude.{◌+◌, ◌≤◌, ◌≡◌, length, repli
 ghost use Rattle.float.specs.Helpers.{nought};
 ghost use Rattle.maztubel.specs.Lent as Lent;
 ghost use Rattle.maztubel.specs.InverseEntries as S;
+ghost use Rattle.maztubel.specs.Steps.{ChoiceAsked};
 
-use crate::lent::{hand_back, put_vector};
-use chain::{Joints, ToolPose};
-use geometry::Vec3;
+use crate::lent::hand_back;
+use chain::{Joints, Kinematics, ToolPose, demand};
 use inverse::{Angles, Choice, Solutions};
 use refusal::{Cause, Refusal};
 
@@ -57,28 +57,9 @@ pub fn maztubel_choose(
 
 // ---- what is lent to be read
 
-// Six numbers as a pose.
-#[tactic(auto, unfolding(crate::specs::InverseEntries::pose_in))]
-pub fn pose_in(pose: &[f64]) -> ToolPose
-    requires { length pose.now ≡ 6 }
-    ensures { result ≡ S.pose_in pose.now }
-{
-    let tip = Vec3 {
-        x: pose[0],
-        y: pose[1],
-        z: pose[2],
-    };
-    let axis = Vec3 {
-        x: pose[3],
-        y: pose[4],
-        z: pose[5],
-    };
-    ToolPose { tip, axis }
-}
-
 // Two numbers as angles.
 #[tactic(auto, unfolding(crate::specs::InverseEntries::angles_in))]
-pub fn angles_in(hint: &[f64]) -> Angles
+fn angles_in(hint: &[f64]) -> Angles
     requires { length hint.now ≡ 2 }
     ensures { result ≡ S.angles_in hint.now }
 {
@@ -88,7 +69,7 @@ pub fn angles_in(hint: &[f64]) -> Angles
 }
 
 #[tactic(auto, unfolding(crate::specs::InverseEntries::choice_of))]
-pub fn choice_of(choice: u32, hint: Angles) -> Choice
+fn choice_of(choice: u32, hint: Angles) -> Choice
     ensures { result ≡ S.choice_of choice hint }
 {
     match choice {
@@ -100,13 +81,7 @@ pub fn choice_of(choice: u32, hint: Angles) -> Choice
 
 // ---- what is answered
 
-pub fn lengths_differ() -> Refusal
-    ensures { result ≡ S.lengths_refused }
-{
-    Refusal::new(Cause::LengthsDiffer, 0)
-}
-
-#[tactic(auto, unfolding(crate::specs::InverseEntries::inverse_of))]
+#[tactic(auto, unfolding(crate::specs::InverseEntries::inverse_of, crate::specs::InverseEntries::pose_in, path::specs::Solving::pose_in))]
 fn inverse_of(
     chain: &[u8],
     pose: &[f64],
@@ -116,14 +91,15 @@ fn inverse_of(
 ) -> Result<Solutions, Refusal>
     ensures { result ≡ S.inverse_of chain.now pose.now tool_length hint.now room }
 {
-    if pose.len() != 6 || hint.len() != 2 || room != 250 {
-        return Err(lengths_differ());
-    }
+    demand(
+        pose.len() == 6 && hint.len() == 2 && room == 250,
+        Cause::LengthsDiffer,
+        0,
+    )?;
     let k = chain::read_chain(chain)?;
-    inverse::inverse(k, pose_in(pose), tool_length, angles_in(hint))
+    inverse::inverse(k, path::pose_in(pose, 0), tool_length, angles_in(hint))
 }
 
-#[tactic(auto, unfolding(crate::specs::InverseEntries::choose_of))]
 fn choose_of(
     chain: &[u8],
     pose: &[f64],
@@ -134,12 +110,34 @@ fn choose_of(
 ) -> Result<Joints, Refusal>
     ensures { result ≡ S.choose_of chain.now pose.now tool_length choice hint.now room }
 {
-    if pose.len() != 6 || hint.len() != 2 || room != 5 || 3 <= choice {
-        return Err(lengths_differ());
-    }
+    let choose = |k, pose, choice| inverse::choose(k, pose, tool_length, choice);
+    chosen(choose, chain, pose, choice, hint, room)
+}
+
+// What `choose` finds for the chain, the pose and the choice that are lent, or the first refusal.
+#[tactic(auto, unfolding(crate::specs::InverseEntries::pose_in, path::specs::Solving::pose_in))]
+pub fn chosen<F: FnOnce(Kinematics, ToolPose, Choice) -> Result<Joints, Refusal>>(
+    choose: F,
+    chain: &[u8],
+    pose: &[f64],
+    choice: u32,
+    hint: &[f64],
+    room: usize,
+) -> Result<Joints, Refusal>
+    requires { F.IsAlwaysCallable choose }
+    ensures { ChoiceAsked (F.post choose) chain.now pose.now choice hint.now room result }
+{
+    demand(
+        pose.len() == 6 && hint.len() == 2 && room == 5 && choice < 3,
+        Cause::LengthsDiffer,
+        0,
+    )?;
     let k = chain::read_chain(chain)?;
-    let c = choice_of(choice, angles_in(hint));
-    inverse::choose(k, pose_in(pose), tool_length, c)
+    choose(
+        k,
+        path::pose_in(pose, 0),
+        choice_of(choice, angles_in(hint)),
+    )
 }
 
 // ---- what is lent to be written
@@ -158,27 +156,17 @@ fn clear(numbers: &mut [f64])
     numbers.fill(0.0);
 }
 
-// Writes a joint set's five numbers from an index on.
-#[tactic(auto, unfolding(crate::specs::InverseEntries::set_over))]
-fn put_joints(j: Joints, numbers: &mut [f64], at: usize)
-    requires { at + 5 ≤ length numbers.old }
-    ensures { numbers.new ≡ S.set_over j numbers.old at }
-{
-    put_vector(j.xyz, numbers, at);
-    numbers[at + 3] = j.a0;
-    numbers[at + 4] = j.a1;
-}
-
-// All 50 joint sets, one after another: +0.0 behind those that there are.
+// The joint sets one after another, and +0.0 behind them. Written by index: once a borrow from `chunks_mut` is over, a
+// proof knows the list's length and not its numbers.
 fn put_sets(solutions: &[Joints], list: &mut [f64])
     requires few { length solutions.now ≤ 50 }
     requires room { length list.old ≡ 250 }
     ensures { list.new ≡ S.set_numbers solutions.now }
 {
-    for k in 0..50 {
-        let j = solutions.get(k).copied().unwrap_or_default();
-        put_joints(j, list, k * 5);
+    for (k, j) in solutions.iter().enumerate() {
+        path::put_joints(*j, list, k * 5);
     }
+    path::clear_from(list, solutions.len() * 5);
 }
 
 fn put_list(answers: &Result<Solutions, Refusal>, list: &mut [f64])
@@ -220,7 +208,7 @@ pub fn put_chosen(answer: Result<Joints, Refusal>, joints: &mut [f64])
     match answer {
         Ok(j) => {
             if joints.len() == 5 {
-                put_joints(j, joints, 0);
+                path::put_joints(j, joints, 0);
             }
         }
         Err(r) => {

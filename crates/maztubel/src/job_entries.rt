@@ -7,7 +7,8 @@ ghost use Rattle.job.specs.JobPoses.{poses_check, job_poses};
 ghost use Rattle.maztubel.specs.Lent as Lent;
 ghost use Rattle.maztubel.specs.JobEntries as S;
 
-use crate::lent::hand_back;
+use crate::lent::{hand_back, hand_place};
+use chain::demand;
 use job::Job;
 use refusal::{Cause, Refusal};
 
@@ -35,9 +36,16 @@ pub fn maztubel_read_job(
     ensures promise { S.ChainPromise job.now (read_job job.now) }
 {
     let read = job::read_job(job);
-    put_chain_places(read, chain_at, chain_length);
-    put_places(read, poses_at, count);
-    put_tolerances(read, cone, chord, axis);
+    put_job(
+        read,
+        chain_at,
+        chain_length,
+        poses_at,
+        count,
+        cone,
+        chord,
+        axis,
+    );
     hand_place(&read, at)
 }
 
@@ -70,46 +78,22 @@ pub fn maztubel_cable_number(
     hand_back(&cable, at, letter)
 }
 
-// The refusal's number, its place written; 0 and 0 where there is none.
-fn hand_place<T>(answer: &Result<T, Refusal>, at: &mut u64) -> u32
-    ensures number { result ≡ Lent.number_in answer.now }
-    ensures place { at.new ≡ Lent.place_in answer.now }
-{
-    match answer {
-        Ok(_) => {
-            *at = 0;
-            0
-        }
-        Err(r) => {
-            *at = r.at;
-            r.cause.number()
-        }
-    }
-}
-
-fn put_chain_places(read: Result<Job, Refusal>, chain_at: &mut u64, chain_length: &mut u64)
+// Writes what a job says into all that is lent for it, where it is read.
+// Beside `put_cable`, `put_asked` and `put_meeting`: each takes another answer apart into what C lends for it.
+fn put_job(
+    read: Result<Job, Refusal>,
+    chain_at: &mut u64,
+    chain_length: &mut u64,
+    poses_at: &mut u64,
+    count: &mut u64,
+    cone: &mut f64,
+    chord: &mut f64,
+    axis: &mut f64,
+)
     ensures chain { chain_at.new ≡ S.chain_over read chain_at.old }
     ensures length { chain_length.new ≡ S.length_over read chain_length.old }
-{
-    let Ok(j) = read else {
-        return;
-    };
-    *chain_at = j.chain_at as u64;
-    *chain_length = j.chain_length as u64;
-}
-
-fn put_places(read: Result<Job, Refusal>, poses_at: &mut u64, count: &mut u64)
     ensures poses { poses_at.new ≡ S.poses_over read poses_at.old }
     ensures count { count.new ≡ S.count_over read count.old }
-{
-    let Ok(j) = read else {
-        return;
-    };
-    *poses_at = j.poses_at as u64;
-    *count = j.poses as u64;
-}
-
-fn put_tolerances(read: Result<Job, Refusal>, cone: &mut f64, chord: &mut f64, axis: &mut f64)
     ensures cone { cone.new ≡ S.cone_over read cone.old }
     ensures chord { chord.new ≡ S.chord_over read chord.old }
     ensures axis { axis.new ≡ S.axis_over read axis.old }
@@ -117,9 +101,13 @@ fn put_tolerances(read: Result<Job, Refusal>, cone: &mut f64, chord: &mut f64, a
     let Ok(j) = read else {
         return;
     };
+    *chain_at = j.chain_at as u64;
+    *chain_length = j.chain_length as u64;
+    *poses_at = j.poses_at as u64;
+    *count = j.poses as u64;
     *cone = j.cone;
-    *chord = j.chord;
-    *axis = j.axis;
+    *chord = j.tol.chord;
+    *axis = j.tol.axis;
 }
 
 // ---- the cable number
@@ -127,9 +115,7 @@ fn put_tolerances(read: Result<Job, Refusal>, cone: &mut f64, chord: &mut f64, a
 fn cable_of(chain: &[u8], joints: &[f64], rotary: u64) -> Result<u64, Refusal>
     ensures { result ≡ S.cable_of chain.now joints.now rotary }
 {
-    if joints.len() % 5 != 0 {
-        return Err(Refusal::new(Cause::LengthsDiffer, 0));
-    }
+    demand(joints.len() % 5 == 0, Cause::LengthsDiffer, 0)?;
     let k = chain::read_chain(chain)?;
     job::cable_number(k, joints, rotary as usize)
 }

@@ -31,8 +31,10 @@ ghost use Rattle.trig.specs.Waves as Waves;
 ghost use Rattle.trig.specs.Arctangent as Arctangent;
 ghost use Rattle.trig.specs.Arccosine as Arccosine;
 ghost use Rattle.lists.specs.Rows.{paired};
+ghost use Rattle.maztubel.specs.Lent as Lent;
 ghost use Rattle.maztubel.specs.Answers.{number_of, written_over, refuses, same_length, number_of_all, all_written_over, EachRight, EachPairRight};
 
+use chain::demand;
 pub use chain_entries::{maztubel_check_chain, maztubel_forward};
 pub use divide_entries::{maztubel_solve_and_divide, maztubel_subdivide_path};
 pub use extremes_entries::{
@@ -40,12 +42,13 @@ pub use extremes_entries::{
 };
 pub use inverse_entries::{maztubel_choose, maztubel_inverse};
 pub use job_entries::{maztubel_cable_number, maztubel_job_poses, maztubel_read_job};
+use lent::number_in;
 pub use link_entries::{maztubel_check_model, maztubel_link_in_part, maztubel_link_world};
 pub use meet_entries::maztubel_links_meet;
 pub use path_entries::maztubel_solve_path;
 pub use quota_entries::{maztubel_divide_for, maztubel_grant};
 pub use quote_entries::maztubel_quote;
-use refusal::Cause;
+use refusal::{Cause, Refusal};
 pub use tooth_entries::maztubel_choose_tooth;
 pub use write_entries::maztubel_write_job;
 
@@ -87,7 +90,8 @@ pub fn maztubel_sines(xs: &[f64], answers: &mut [f64]) -> u32
     ensures lent { answers.new ≡ all_written_over result (map Waves.sine_of xs.now) answers.old }
     ensures right { EachRight Waves.SineAnswer Waves.sine_of xs.now }
 {
-    of_each::<Sines>(xs, answers)
+    let checked = of_each::<Sines>(xs, answers);
+    number_in(&checked)
 }
 
 #[tactic(auto, using(trig::proofs::Laws::cosine_answer))]
@@ -96,7 +100,8 @@ pub fn maztubel_cosines(xs: &[f64], answers: &mut [f64]) -> u32
     ensures lent { answers.new ≡ all_written_over result (map Waves.cosine_of xs.now) answers.old }
     ensures right { EachRight Waves.CosineAnswer Waves.cosine_of xs.now }
 {
-    of_each::<Cosines>(xs, answers)
+    let checked = of_each::<Cosines>(xs, answers);
+    number_in(&checked)
 }
 
 #[tactic(auto, using(trig::proofs::Laws::arccosine_answer))]
@@ -105,24 +110,18 @@ pub fn maztubel_arccosines(cs: &[f64], answers: &mut [f64]) -> u32
     ensures lent { answers.new ≡ all_written_over result (map Arccosine.arccosine_of cs.now) answers.old }
     ensures right { EachRight Arccosine.ArccosineAnswer Arccosine.arccosine_of cs.now }
 {
-    of_each::<Arccosines>(cs, answers)
+    let checked = of_each::<Arccosines>(cs, answers);
+    number_in(&checked)
 }
 
+#[tactic(auto, using(trig::proofs::Laws::arctangent_answer))]
 pub fn maztubel_arctangents(ys: &[f64], xs: &[f64], answers: &mut [f64]) -> u32
     ensures number { result ≡ number_of_all (same_length ys.now xs.now && same_length xs.now answers.old) (paired Arctangent.arctangent_of ys.now xs.now) }
     ensures lent { answers.new ≡ all_written_over result (paired Arctangent.arctangent_of ys.now xs.now) answers.old }
     ensures right { EachPairRight Arctangent.ArctangentAnswer Arctangent.arctangent_of ys.now xs.now }
 {
-    if ys.len() != xs.len() || xs.len() != answers.len() {
-        return Cause::LengthsDiffer.number();
-    }
-    if any_pair_refused(ys, xs) {
-        return Cause::TooLarge.number();
-    }
-    for (i, answer) in answers.iter_mut().enumerate() {
-        *answer = trig::arctangent(ys[i], xs[i]).unwrap_or(*answer);
-    }
-    0
+    let checked = of_pairs(ys, xs, answers);
+    number_in(&checked)
 }
 
 // A function of one argument that `trig` answers: one pair of loops serves the slice forms of all.
@@ -188,20 +187,18 @@ fn any_refused<F: Answered>(xs: &[f64]) -> bool
     xs.iter().any(|x| F::refused(*x))
 }
 
-fn of_each<F: Answered>(xs: &[f64], answers: &mut [f64]) -> u32
-    ensures number { result ≡ number_of_all (same_length xs.now answers.old) (map F.answer xs.now) }
-    ensures lent { answers.new ≡ all_written_over result (map F.answer xs.now) answers.old }
+#[tactic(auto, unfolding(crate::specs::Answers::number_of_all))]
+fn of_each<F: Answered>(xs: &[f64], answers: &mut [f64]) -> Result<(), Refusal>
+    ensures number { Lent.number_in result ≡ number_of_all (same_length xs.now answers.old) (map F.answer xs.now) }
+    ensures lent { answers.new ≡ all_written_over (Lent.number_in result) (map F.answer xs.now) answers.old }
 {
-    if xs.len() != answers.len() {
-        return Cause::LengthsDiffer.number();
-    }
-    if any_refused::<F>(xs) {
-        return Cause::TooLarge.number();
-    }
+    demand(xs.len() == answers.len(), Cause::LengthsDiffer, 0)?;
+    demand(!any_refused::<F>(xs), Cause::TooLarge, 0)?;
+    // By index, as in `of_pairs`: tried with `zip`, under which the loop's invariant cannot name the answers.
     for (i, answer) in answers.iter_mut().enumerate() {
         *answer = F::answer(xs[i]).unwrap_or(*answer);
     }
-    0
+    Ok(())
 }
 
 // Writes the answer where there is one, and gives its number.
@@ -227,4 +224,20 @@ fn any_pair_refused(ys: &[f64], xs: &[f64]) -> bool
     ensures { result ≡ list_any (λ p. refuses (Arctangent.arctangent_of p.0 p.1)) (zip ys.now xs.now) }
 {
     ys.iter().zip(xs).any(|(y, x)| pair_refused(*y, *x))
+}
+
+// Beside `of_each`, since C lends two slices: one loop for both would take the answer at an index as a closure, and ask
+// each of the two for the bounds that the index keeps here.
+#[tactic(auto, unfolding(crate::specs::Answers::number_of_all))]
+fn of_pairs(ys: &[f64], xs: &[f64], answers: &mut [f64]) -> Result<(), Refusal>
+    ensures number { Lent.number_in result ≡ number_of_all (same_length ys.now xs.now && same_length xs.now answers.old) (paired Arctangent.arctangent_of ys.now xs.now) }
+    ensures lent { answers.new ≡ all_written_over (Lent.number_in result) (paired Arctangent.arctangent_of ys.now xs.now) answers.old }
+{
+    demand(ys.len() == xs.len(), Cause::LengthsDiffer, 0)?;
+    demand(xs.len() == answers.len(), Cause::LengthsDiffer, 0)?;
+    demand(!any_pair_refused(ys, xs), Cause::TooLarge, 0)?;
+    for (i, answer) in answers.iter_mut().enumerate() {
+        *answer = trig::arctangent(ys[i], xs[i]).unwrap_or(*answer);
+    }
+    Ok(())
 }

@@ -6,11 +6,11 @@ ghost use Rattle.maztubel.specs.Lent as Lent;
 ghost use Rattle.maztubel.specs.LinkEntries as S;
 ghost use Rattle.maztubel.specs.Steps.{LinkAsked};
 
-use crate::inverse_entries::lengths_differ;
-use crate::lent::{hand_back, joints_in, put_vector};
-use chain::{Joints, Kinematics};
+use crate::lent::{hand_back, put_vector};
+use chain::{Joints, Kinematics, demand};
 use geometry::Rigid;
-use refusal::Refusal;
+use model::MachineModel;
+use refusal::{Cause, Refusal};
 
 pub fn maztubel_check_model(
     name: &[u8],
@@ -43,7 +43,8 @@ pub fn maztubel_link_world(
     ensures lent { frame.new ≡ S.frame_over (S.link_of link_world name.now chain.now model.now joints.now carrier.now (length frame.old)) frame.old }
 {
     let room = frame.len();
-    let place = |k, j| model::link_world(name, k, model, j, carrier);
+    let bytes = model;
+    let place = |chain, j| MachineModel { name, chain, bytes }.link_world(j, carrier);
     let answer = link_of(place, chain, joints, room);
     put_frame(answer, frame);
     hand_back(&answer, at, letter)
@@ -65,7 +66,8 @@ pub fn maztubel_link_in_part(
     ensures lent { frame.new ≡ S.frame_over (S.link_of link_in_part name.now chain.now model.now joints.now carrier.now (length frame.old)) frame.old }
 {
     let room = frame.len();
-    let place = |k, j| model::link_in_part(name, k, model, j, carrier);
+    let bytes = model;
+    let place = |chain, j| MachineModel { name, chain, bytes }.link_in_part(j, carrier);
     let answer = link_of(place, chain, joints, room);
     put_frame(answer, frame);
     hand_back(&answer, at, letter)
@@ -75,10 +77,17 @@ pub fn maztubel_link_in_part(
 fn check_model(name: &[u8], chain: &[u8], model: &[u8]) -> Result<(), Refusal>
     ensures { result ≡ S.check_model_of name.now chain.now model.now }
 {
-    model::check_model(name, chain::read_chain(chain)?, model)
+    let chain = chain::read_chain(chain)?;
+    let machine = MachineModel {
+        name,
+        chain,
+        bytes: model,
+    };
+    machine.check()
 }
 
 // The frame that `place` finds, of the chain and the joints that are lent, or the first refusal.
+#[tactic(auto, unfolding(crate::specs::Lent::joints_in, turn::specs::Items::joints_in))]
 fn link_of<F: FnOnce(Kinematics, Joints) -> Result<Rigid, Refusal>>(
     place: F,
     chain: &[u8],
@@ -88,11 +97,9 @@ fn link_of<F: FnOnce(Kinematics, Joints) -> Result<Rigid, Refusal>>(
     requires { F.IsAlwaysCallable place }
     ensures { LinkAsked (F.post place) chain.now joints.now room result }
 {
-    if joints.len() == 5 && room == 12 {
-        let k = chain::read_chain(chain)?;
-        return place(k, joints_in(joints));
-    }
-    Err(lengths_differ())
+    demand(joints.len() == 5 && room == 12, Cause::LengthsDiffer, 0)?;
+    let k = chain::read_chain(chain)?;
+    place(k, turn::joints_in(joints, 0))
 }
 
 // Writes a frame where there is one, and twelve numbers' room for it.

@@ -6,7 +6,9 @@ ghost use Rattle.maztubel.specs.Lent as Lent;
 ghost use Rattle.maztubel.specs.MeetEntries as S;
 
 use crate::lent::hand_back;
+use chain::demand;
 use meet::Meeting;
+use model::MachineModel;
 use refusal::{Cause, Refusal};
 
 #[tactic(auto, using(crate::proofs::Meetings::meet_promised))]
@@ -46,10 +48,13 @@ fn meet_of(
 ) -> Result<Option<Meeting>, Refusal>
     ensures { result ≡ S.meet_of name.now chain.now model.now joints.now }
 {
-    if joints.len() % 5 != 0 {
-        return Err(Refusal::new(Cause::LengthsDiffer, 0));
-    }
-    meet::links_meet(name, chain::read_chain(chain)?, model, joints)
+    demand(joints.len() % 5 == 0, Cause::LengthsDiffer, 0)?;
+    let machine = MachineModel {
+        name,
+        chain: chain::read_chain(chain)?,
+        bytes: model,
+    };
+    meet::links_meet(&machine, joints)
 }
 
 fn put_meeting(

@@ -6,8 +6,8 @@ ghost use Rattle.path.specs.Solving as Path;
 ghost use Rattle.maztubel.specs.Lent as Lent;
 ghost use Rattle.maztubel.specs.PathEntries as S;
 
-use crate::lent::{hand_back, joints_in};
-use chain::Joints;
+use crate::lent::hand_back;
+use chain::{Joints, demand};
 use refusal::{Cause, Refusal};
 
 #[tactic(auto, using(crate::proofs::Promised::promised))]
@@ -45,16 +45,14 @@ fn lengths_good(poses: usize, joints: usize, start: usize) -> bool
     path::whole_records(poses, joints) && start_good(start)
 }
 
-#[tactic(auto, unfolding(crate::specs::PathEntries::start_in))]
+#[tactic(auto, unfolding(crate::specs::PathEntries::start_in, crate::specs::Lent::joints_in, turn::specs::Items::joints_in))]
 pub fn start_in(start: &[f64]) -> Option<Joints>
     ensures { result ≡ S.start_in start.now }
 {
-    if start.len() == 5 {
-        return Some(joints_in(start));
-    }
-    None
+    (start.len() == 5).then(|| turn::joints_in(start, 0))
 }
 
+#[tactic(auto, unfolding(crate::specs::PathEntries::solve_path_of, path::specs::Solving::path_over))]
 fn solve_path_of(
     chain: &[u8],
     poses: &[f64],
@@ -65,9 +63,11 @@ fn solve_path_of(
     ensures checked { result ≡ Path.checked_in (S.solve_path_of chain.now poses.now start.now cone (length joints.old)) }
     ensures lent { joints.new ≡ Path.path_over (S.solve_path_of chain.now poses.now start.now cone (length joints.old)) joints.old }
 {
-    if !lengths_good(poses.len(), joints.len(), start.len()) {
-        return Err(Refusal::new(Cause::LengthsDiffer, 0));
-    }
+    demand(
+        lengths_good(poses.len(), joints.len(), start.len()),
+        Cause::LengthsDiffer,
+        0,
+    )?;
     let k = chain::read_chain(chain)?;
     path::solve_path(k, poses, start_in(start), cone, joints)
 }

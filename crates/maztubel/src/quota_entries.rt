@@ -12,6 +12,7 @@ ghost use Rattle.maztubel.specs.QuotaEntries as S;
 use crate::divide_entries::{hand_over, subdivide_of};
 use crate::lent::number_in;
 use divide::DivisionError;
+use middle::Tolerances;
 
 pub fn maztubel_grant(balances: &mut [u64], shop: u64, amount: u64) -> u32
     ensures number { result ≡ number_in (grant_check balances.old shop amount) }
@@ -55,8 +56,9 @@ pub fn maztubel_divide_for(
     ensures says { let plain = subdivide_of chain.now (tolerances chord axis) poses.now joints.now (length out_poses.old) (length out_joints.old) in
         S.ChargedSays result balances.old shop plain (division_in (charged_division balances.old shop plain)) }
 {
+    let tol = Tolerances { chord, axis };
     let said = charged_of(
-        balances, shop, chain, poses, joints, chord, axis, out_poses, out_joints,
+        balances, shop, chain, tol, poses, joints, out_poses, out_joints,
     );
     hand_over(said, inserted, at, letter)
 }
@@ -66,25 +68,24 @@ fn charged_of(
     balances: &mut [u64],
     shop: u64,
     chain: &[u8],
+    tol: Tolerances,
     poses: &[f64],
     joints: &[f64],
-    chord: f64,
-    axis: f64,
     out_poses: &mut [f64],
     out_joints: &mut [f64],
 ) -> Result<u64, DivisionError>
-    ensures answer { let plain = subdivide_of chain.now (tolerances chord axis) poses.now joints.now (length out_poses.old) (length out_joints.old) in
+    ensures answer { let plain = subdivide_of chain.now tol poses.now joints.now (length out_poses.old) (length out_joints.old) in
         result ≡ division_in (charged_division balances.old shop plain) }
-    ensures poses { let plain = subdivide_of chain.now (tolerances chord axis) poses.now joints.now (length out_poses.old) (length out_joints.old) in
+    ensures poses { let plain = subdivide_of chain.now tol poses.now joints.now (length out_poses.old) (length out_joints.old) in
         out_poses.new ≡ poses_left (charged_division balances.old shop plain) out_poses.old }
-    ensures joints { let plain = subdivide_of chain.now (tolerances chord axis) poses.now joints.now (length out_poses.old) (length out_joints.old) in
+    ensures joints { let plain = subdivide_of chain.now tol poses.now joints.now (length out_poses.old) (length out_joints.old) in
         out_joints.new ≡ joints_left (charged_division balances.old shop plain) out_joints.old }
-    ensures balances { let plain = subdivide_of chain.now (tolerances chord axis) poses.now joints.now (length out_poses.old) (length out_joints.old) in
+    ensures balances { let plain = subdivide_of chain.now tol poses.now joints.now (length out_poses.old) (length out_joints.old) in
         balances.new ≡ after balances.old (Divide shop plain) }
-    ensures price { let plain = subdivide_of chain.now (tolerances chord axis) poses.now joints.now (length out_poses.old) (length out_joints.old) in
-        S.ChargedPromise (read_chain chain.now) balances.old shop plain (tolerances chord axis) poses.now joints.now (length out_poses.old) (length out_joints.old) (division_in (charged_division balances.old shop plain)) out_poses.new out_joints.new }
+    ensures price { let plain = subdivide_of chain.now tol poses.now joints.now (length out_poses.old) (length out_joints.old) in
+        S.ChargedPromise (read_chain chain.now) balances.old shop plain tol poses.now joints.now (length out_poses.old) (length out_joints.old) (division_in (charged_division balances.old shop plain)) out_poses.new out_joints.new }
 {
     quota::shop_check(balances.len(), shop)?;
-    let said = subdivide_of(chain, poses, joints, chord, axis, out_poses, out_joints);
+    let said = subdivide_of(chain, tol, poses, joints, out_poses, out_joints);
     quota::settle(said, balances, shop as usize, out_poses, out_joints)
 }

@@ -7,6 +7,7 @@ ghost use Rattle.maztubel.specs.DivideEntries.{tolerances};
 ghost use Rattle.maztubel.specs.QuoteEntries as S;
 
 use crate::lent::hand_back;
+use chain::demand;
 use middle::Tolerances;
 use quote::{Figures, QuoteError};
 use refusal::{Cause, Refusal};
@@ -33,15 +34,8 @@ pub fn maztubel_quote(
     ensures divided { let answer = S.quote_of chain.now (tolerances chord axis) poses.now joints.now (length scratch_joints.old) (length scratch_tips.old) in
         S.QuotePromise (read_chain chain.now) (tolerances chord axis) poses.now joints.now (length scratch_joints.old) (length scratch_tips.old) answer }
 {
-    let answer = quote_of(
-        chain,
-        poses,
-        joints,
-        chord,
-        axis,
-        scratch_joints,
-        scratch_tips,
-    );
+    let tol = Tolerances { chord, axis };
+    let answer = quote_of(chain, tol, poses, joints, scratch_joints, scratch_tips);
     let figures = figures_in(answer);
     *inserted = figures.inserted;
     *poses_out = figures.poses;
@@ -58,54 +52,35 @@ fn quote_whole(poses: usize, joints: usize, room_joints: usize, room_tips: usize
 
 fn quote_of(
     chain: &[u8],
+    tol: Tolerances,
     poses: &[f64],
     joints: &[f64],
-    chord: f64,
-    axis: f64,
     scratch_joints: &mut [f64],
     scratch_tips: &mut [f64],
 ) -> Result<Figures, QuoteError>
-    ensures answer { result ≡ S.quote_of chain.now (tolerances chord axis) poses.now joints.now (length scratch_joints.old) (length scratch_tips.old) }
+    ensures answer { result ≡ S.quote_of chain.now tol poses.now joints.now (length scratch_joints.old) (length scratch_tips.old) }
     ensures joints { scratch_joints.new ≡ scratch_left result scratch_joints.old }
     ensures tips { scratch_tips.new ≡ scratch_left result scratch_tips.old }
 {
-    if !quote_whole(
+    let whole = quote_whole(
         poses.len(),
         joints.len(),
         scratch_joints.len(),
         scratch_tips.len(),
-    ) {
-        return Err(QuoteError::Refused(Refusal::new(Cause::LengthsDiffer, 0)));
-    }
+    );
+    demand(whole, Cause::LengthsDiffer, 0)?;
     let k = chain::read_chain(chain)?;
-    let tol = Tolerances { chord, axis };
     quote::quote_path(k, tol, poses, joints, scratch_joints, scratch_tips)
 }
 
-fn refused_by(cause: Cause) -> Result<(), Refusal>
-    ensures { result ≡ S.refused_by cause }
-{
-    Err(Refusal::new(cause, 0))
-}
-
+// The refusal that C is told. It has no place where the quotation ended before its time.
 fn refusal_in(answer: Result<Figures, QuoteError>) -> Result<(), Refusal>
     ensures { result ≡ S.refusal_in answer }
 {
     match answer {
         Ok(_) => Ok(()),
         Err(QuoteError::Refused(r)) => Err(r),
-        Err(QuoteError::NoSpace) => refused_by(Cause::NoSpace),
-        Err(QuoteError::TooMany(_)) => refused_by(Cause::TooManyInsertions),
-    }
-}
-
-fn count_alone(inserted: u64) -> Figures
-    ensures { result ≡ S.count_alone inserted }
-{
-    Figures {
-        inserted,
-        poses: 0,
-        evaluations: 0,
+        Err(QuoteError::Stopped(stop)) => Err(Refusal::new(stop.cause(), 0)),
     }
 }
 
@@ -114,7 +89,10 @@ fn figures_in(answer: Result<Figures, QuoteError>) -> Figures
 {
     match answer {
         Ok(figures) => figures,
-        Err(QuoteError::TooMany(n)) => count_alone(n),
-        Err(QuoteError::Refused(_) | QuoteError::NoSpace) => count_alone(0),
+        Err(QuoteError::Refused(_)) => Figures::default(),
+        Err(QuoteError::Stopped(stop)) => Figures {
+            inserted: stop.inserted(),
+            ..Figures::default()
+        },
     }
 }

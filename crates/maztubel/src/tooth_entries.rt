@@ -4,9 +4,9 @@
 ghost use Rattle.std.specs.Prelude.{◌≡◌, length};
 ghost use Rattle.maztubel.specs.ToothEntries as S;
 
-use crate::inverse_entries::{angles_in, choice_of, lengths_differ, pose_in, put_chosen};
+use crate::inverse_entries::{chosen, put_chosen};
 use crate::lent::hand_back;
-use chain::Joints;
+use chain::{Joints, demand};
 use refusal::{Cause, Refusal};
 
 pub fn maztubel_choose_tooth(
@@ -41,13 +41,7 @@ fn tooth_of(
 ) -> Result<Joints, Refusal>
     ensures { result ≡ S.tooth_of chain.now pose.now tool_length choice hint.now tolerance room }
 {
-    if !divide::tolerance_good(tolerance) {
-        return Err(Refusal::new(Cause::Tolerance, 0));
-    }
-    if pose.len() != 6 || hint.len() != 2 || room != 5 || 3 <= choice {
-        return Err(lengths_differ());
-    }
-    let k = chain::read_chain(chain)?;
-    let c = choice_of(choice, angles_in(hint));
-    hirth::choose_tooth(k, pose_in(pose), tool_length, c, tolerance)
+    demand(divide::tolerance_good(tolerance), Cause::Tolerance, 0)?;
+    let choose = |k, pose, choice| hirth::choose_tooth(k, pose, tool_length, choice, tolerance);
+    chosen(choose, chain, pose, choice, hint, room)
 }

@@ -8,6 +8,7 @@ ghost use Rattle.maztubel.specs.DivideEntries.{tolerances};
 ghost use Rattle.maztubel.specs.WriteEntries as S;
 
 use crate::lent::hand_back;
+use chain::demand;
 use middle::Tolerances;
 use refusal::{Cause, Refusal};
 
@@ -29,7 +30,8 @@ pub fn maztubel_write_job(
     ensures lent { job.new ≡ S.job_left chain.now poses.now cone (tolerances chord axis) job.old }
     ensures promise { S.WritePromise (read_chain chain.now) poses.now cone (tolerances chord axis) (ListN.length job.old) }
 {
-    let written = write_of(chain, poses, cone, chord, axis, job);
+    let tol = Tolerances { chord, axis };
+    let written = write_of(chain, poses, cone, tol, job);
     *length = length_in(written);
     hand_back(&written, at, letter)
 }
@@ -38,27 +40,20 @@ fn write_of(
     chain: &[u8],
     poses: &[f64],
     cone: f64,
-    chord: f64,
-    axis: f64,
+    tol: Tolerances,
     job: &mut [u8],
 ) -> Result<usize, Refusal>
-    ensures answer { result ≡ S.write_of chain.now poses.now cone (tolerances chord axis) (ListN.length job.old) }
-    ensures lent { job.new ≡ S.job_left chain.now poses.now cone (tolerances chord axis) job.old }
-    ensures promise { S.WritePromise (read_chain chain.now) poses.now cone (tolerances chord axis) (ListN.length job.old) }
+    ensures answer { result ≡ S.write_of chain.now poses.now cone tol (ListN.length job.old) }
+    ensures lent { job.new ≡ S.job_left chain.now poses.now cone tol job.old }
+    ensures promise { S.WritePromise (read_chain chain.now) poses.now cone tol (ListN.length job.old) }
 {
-    if poses.len() % 6 != 0 {
-        return Err(Refusal::new(Cause::LengthsDiffer, 0));
-    }
+    demand(poses.len() % 6 == 0, Cause::LengthsDiffer, 0)?;
     let k = chain::read_chain(chain)?;
-    let tol = Tolerances { chord, axis };
     writer::write_job(k, poses, cone, tol, job)
 }
 
 fn length_in(written: Result<usize, Refusal>) -> u64
     ensures { result ≡ S.length_in written }
 {
-    match written {
-        Ok(n) => n as u64,
-        Err(_) => 0,
-    }
+    written.map_or(0, |n| n as u64)
 }

@@ -1,22 +1,22 @@
 -- The searches: for the first pair, and along the path. For each loop a record for its
 -- invariant, and a law each for its start, its step, a find and its end.
-use Prim.Native.Nat.{ℕ, suc, ◌+◌, ◌-◌, ◌*◌, ◌/◌, ◌≤◌, ◌<◌}
-use native.Mathlib.Nat.{sub-zero}
+use Prim.Native.Nat.{ℕ, zero, suc, ◌+◌, ◌-◌, ◌/◌, ◌≤◌, ◌<◌}
 use native.Mathlib.Numerals.{add-one}
 use native.Mathlib.Omega.{arith}
 use mathlib.Core.Path.{◌≡◌, refl, sym, ap, ◌∙◌}
 use mathlib.Core.Bool.{Bool, true, false, cond}
-use mathlib.Core.List.{List, ◌∷◌}
+use mathlib.Core.List.{List, ◌∷◌, map}
 use lib.Dec.{ltb}
 use Rattle.std.proofs.Math.Seq.{take-length}
 use Rattle.std.proofs.lemmas.List.{length-drop}
 use lib.ListN.{length, take, drop, get_or, drop_of_length-le}
-use lib.Seq.{drop-cons, drop-drop}
+use lib.Seq.{drop-cons, get_or-take}
 use Rattle.std.proofs.Common.{Option, Some, None}
 use Rattle.std.specs.List.{position, position_or_len}
 use Rattle.std.proofs.lemmas.List.Recursion.{is_position_or_len}
 use Rattle.lists.proofs.Search.{any_within}
-use lib.Ieee.{Float}
+use lib.Ieee.{Float, nan}
+use Rattle.std.specs.Simd.{first_chunks}
 use Rattle.lists.specs.Rows.{rows}
 use Rattle.lists.specs.Search.{any, first_hit}
 use Rattle.chain.specs.declared.Joints.{Joints}
@@ -80,36 +80,47 @@ pub pair_end : (l : List Ball) (i : ℕ) → length l ≤ i → first_pair near 
 unfolding first_pair
 pair_end l i p e = sym (e ∙ rw (drop_of_length-le l p))
 
--- ---- along the path
-pub record Following (pair : Joints → Option LinkPair) (l : List Float) (n i : ℕ) : Type 0 where
-  pub within : i ≤ n
-  pub count : n ≡ length l / 5
-  pub whole : along_path pair 0 (sets_in l) ≡ along_path pair i (rows 5 joints_from (n - i) (drop (i * 5) l))
+-- ---- along the path: the joint sets as chunks of five, the library's chunks beside the sets of `sets_in`
+abbrev pub set_in : List Float → Joints
+set_in c = joints_in c 0
 
-pub following_start : (pair : Joints → Option LinkPair) (l : List Float) → Following pair l (length l / 5) 0
-unfolding sets_in
-following_start pair l = record { within = omega arith; count = refl; whole = rw sub-zero }
+front : (l : List Float) → joints_from (take 5 l) ≡ joints_from l
+front l =
+    rw (
+      get_or-take 5 l 0 nan (omega arith),
+      get_or-take 5 l 1 nan (omega arith),
+      get_or-take 5 l 2 nan (omega arith),
+      get_or-take 5 l 3 nan (omega arith),
+      get_or-take 5 l 4 nan (omega arith),
+    )
 
-next_set : (l : List Float) (n i : ℕ) → i < n → rows 5 joints_from (n - i) (drop (i * 5) l) ≡ joints_in l (i * 5) ∷ rows 5 joints_from (n - (i + 1)) (drop ((i + 1) * 5) l)
+chunked : (k : ℕ) (l : List Float) → rows 5 joints_from k l ≡ map set_in (first_chunks 5 k l)
 unfolding rows joints_in
-next_set l n i p =
-    let e : n - i ≡ suc (n - (i + 1)) = omega arith in
-    let f : i * 5 + 5 ≡ (i + 1) * 5 = omega arith in
-    rw (e, drop-drop, f)
+chunked zero l = refl
+chunked (suc k) l = rw (front l, chunked k (drop 5 l))
 
-module _ {pair : Joints → Option LinkPair} {l : List Float} {n i : ℕ} {j : Joints} {answer : Option LinkPair} (p : i < n) (g : Following pair l n i) (this : j ≡ joints_in l (i * 5)) (e : answer ≡ pair j) where
-  here : along_path pair 0 (sets_in l) ≡ or_later i answer (along_path pair (i + 1) (rows 5 joints_from (n - (i + 1)) (drop ((i + 1) * 5) l)))
+-- what the path comes to from the chunk i on
+pub record Following (pair : Joints → Option LinkPair) (l : List Float) (sets : List (List Float)) (i : ℕ) : Type 0 where
+  pub whole : along_path pair 0 (sets_in l) ≡ along_path pair i (map set_in (drop i sets))
+
+pub following_start : (pair : Joints → Option LinkPair) {l : List Float} {sets : List (List Float)} → sets ≡ first_chunks 5 (length l / 5) l → Following pair l sets 0
+unfolding sets_in
+following_start pair {l} e = record { whole = rw (e, ← chunked (length l / 5) l) }
+
+module _ {pair : Joints → Option LinkPair} {l : List Float} {sets : List (List Float)} {i : ℕ} (d : List Float) {j : Joints} {answer : Option LinkPair}
+    (p : i < length sets) (g : Following pair l sets i) (this : j ≡ joints_in (get_or sets i d) 0) (e : answer ≡ pair j) where
+  here : along_path pair 0 (sets_in l) ≡ or_later i answer (along_path pair (i + 1) (map set_in (drop (i + 1) sets)))
   unfolding along_path
-  here = g.whole ∙ rw (next_set l n i p, ← this, ← e)
+  here =
+      let from : drop i sets ≡ get_or sets i d ∷ drop (i + 1) sets = rw add-one (drop-cons sets i d p) in
+      g.whole ∙ rw (from, ← this, ← e)
 
-  pub following_step : answer ≡ None → Following pair l n (i + 1)
-  following_step a = record { within = omega arith; count = g.count; whole = rw a at here }
+  pub following_step : answer ≡ None → Following pair l sets (i + 1)
+  following_step a = record { whole = rw a at here }
 
   pub following_found : {p : LinkPair} → answer ≡ Some p → Some (meeting_at i p.first p.second) ≡ along_path pair 0 (sets_in l)
   following_found a = sym (rw a at here)
 
-pub following_end : {pair : Joints → Option LinkPair} {l : List Float} {n i : ℕ} → n ≤ i → Following pair l n i → None ≡ along_path pair 0 (sets_in l)
-unfolding along_path rows
-following_end {pair} {l} {n} {i} p g =
-    let e : n - i ≡ 0 = omega arith in
-    sym (rw e at g.whole)
+pub following_end : {pair : Joints → Option LinkPair} {l : List Float} {sets : List (List Float)} {i : ℕ} → length sets ≤ i → Following pair l sets i → None ≡ along_path pair 0 (sets_in l)
+unfolding along_path
+following_end {sets = sets} {i = i} p g = sym (rw (drop_of_length-le sets p) at g.whole)

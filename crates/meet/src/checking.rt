@@ -4,9 +4,9 @@ ghost use Rattle.lists.specs.Search.{all};
 ghost use Rattle.model.specs.Model.{links_of};
 ghost use Rattle.meet.specs.Checking as S;
 
-use chain::{Kinematics, all_within, demand, within};
+use chain::{all_within, demand, within};
 use geometry::Vec3;
-use model::{Link, LinkSolid};
+use model::{Link, LinkSolid, MachineModel};
 use refusal::{Cause, Refusal};
 
 #[tactic(auto, unfolding(crate::specs::Checking::box_within))]
@@ -53,23 +53,18 @@ fn solids_within(bytes: &[u8]) -> bool
 }
 
 #[tactic(auto, unfolding(crate::specs::Checking::meeting_sizes))]
-fn meeting_sizes(k: Kinematics, bytes: &[u8], joints: &[f64]) -> bool
-    ensures { result ≡ S.meeting_sizes k bytes.now joints.now }
+fn meeting_sizes(model: &MachineModel, joints: &[f64]) -> bool
+    ensures { result ≡ S.meeting_sizes model.now.chain model.now.bytes.now joints.now }
 {
-    chain::chain_within(k) && extremes::all_within(joints) && solids_within(bytes)
+    chain::chain_within(model.chain) && extremes::all_within(joints) && solids_within(model.bytes)
 }
 
 #[tactic(auto, unfolding(crate::specs::Checking::meeting_check))]
-pub fn meeting_check(
-    name: &[u8],
-    k: Kinematics,
-    bytes: &[u8],
-    joints: &[f64],
-) -> Result<(), Refusal>
-    ensures { result ≡ S.meeting_check name.now k bytes.now joints.now }
+pub fn meeting_check(model: &MachineModel, joints: &[f64]) -> Result<(), Refusal>
+    ensures { let m = model.now in result ≡ S.meeting_check m.name.now m.chain m.bytes.now joints.now }
 {
     demand(joints.len() % 5 == 0, Cause::LengthsDiffer, 0)?;
-    model::full_check(name, k, bytes)?;
+    model.full_check()?;
     demand(extremes::all_finite(joints), Cause::NotFinite, 0)?;
-    demand(meeting_sizes(k, bytes, joints), Cause::TooLarge, 0)
+    demand(meeting_sizes(model, joints), Cause::TooLarge, 0)
 }

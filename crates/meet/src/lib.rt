@@ -43,7 +43,8 @@ pub struct LinkPair {
     pub second: usize,
 }
 
-// The first pose where two links meet, and the first two that do.
+// The first pose where two links meet, and the first two that do. Three numbers, and no `LinkPair` within: so has the
+// definition `meeting_at`, and so C is told.
 #[derive(Clone, Copy)]
 pub struct Meeting {
     pub pose: usize,

@@ -7,9 +7,8 @@ ghost use Rattle.meet.specs.MeetingSteps as T;
 
 use crate::{Ball, Balls};
 use arrayvec::ArrayVec;
-use chain::Kinematics;
 use geometry::Vec3;
-use model::{Link, LinkKind, LinkSolid};
+use model::{Link, LinkKind, LinkSolid, MachineModel};
 
 // The middle between the corners, and half the diagonal.
 #[tactic(auto, unfolding(crate::specs::Balls::box_middle, crate::specs::Balls::box_radius))]
@@ -56,23 +55,23 @@ fn ball_of(kind: LinkKind, solid: LinkSolid) -> Ball
 }
 
 #[tactic(auto, unfolding(crate::specs::MeetingSteps::link_ball))]
-fn link_ball(k: Kinematics, bytes: &[u8], link: Link) -> Ball
-    requires { link.kind + 65 ≤ length bytes.now }
-    ensures { result ≡ T.link_ball k bytes.now link }
+fn link_ball(model: &MachineModel, link: Link) -> Ball
+    requires { link.kind + 65 ≤ length model.now.bytes.now }
+    ensures { result ≡ T.link_ball model.now.chain model.now.bytes.now link }
 {
-    let carrier = model::text(bytes, link.carrier + 2, link.kind);
-    let kind = model::carrier_kind(k, carrier);
-    ball_of(kind, model::solid_at(bytes, link.kind))
+    let carrier = model::text(model.bytes, link.carrier + 2, link.kind);
+    let kind = model::carrier_kind(model.chain, carrier);
+    ball_of(kind, model::solid_at(model.bytes, link.kind))
 }
 
 // The balls of a model's links, each of which is whole.
-pub fn balls_in(k: Kinematics, bytes: &[u8]) -> Balls
-    requires { (length (links_of bytes.now) ≤ 64) × (all (T.whole_solid bytes.now) (links_of bytes.now) ≡ true) }
-    ensures { result.items ≡ map (T.link_ball k bytes.now) (links_of bytes.now) }
+pub fn balls_in(model: &MachineModel) -> Balls
+    requires { let bytes = model.now.bytes.now in (length (links_of bytes) ≤ 64) × (all (T.whole_solid bytes) (links_of bytes) ≡ true) }
+    ensures { let bytes = model.now.bytes.now in result.items ≡ map (T.link_ball model.now.chain bytes) (links_of bytes) }
 {
     let mut balls = ArrayVec::new();
-    for link in model::links_in(bytes) {
-        balls.push(link_ball(k, bytes, link));
+    for link in model::links_in(model.bytes) {
+        balls.push(link_ball(model, link));
     }
     balls
 }

@@ -1,9 +1,8 @@
 // The balls at a joint set: each middle placed by the frame of what carries it.
-ghost use Rattle.std.specs.Prelude.{◌≤◌, map, ◌≡◌, length};
+ghost use Rattle.std.specs.Prelude.{map, ◌≡◌};
 ghost use Rattle.meet.specs.MeetingSteps as T;
 
 use crate::{Ball, Balls, Frames};
-use arrayvec::ArrayVec;
 use chain::{Joints, Prepared};
 use geometry::Rigid;
 use model::{LinkKind, frame_of};
@@ -43,20 +42,15 @@ fn placed(frames: Frames, ball: Ball) -> Ball
 {
     let frame = frame_for(frames, ball.kind);
     let middle = frame.map_point(ball.middle);
-    Ball {
-        kind: ball.kind,
-        middle,
-        radius: ball.radius,
-    }
+    Ball { middle, ..ball }
 }
 
-pub fn placed_all(frames: Frames, balls: &[Ball]) -> Balls
-    requires { length balls.now ≤ 64 }
-    ensures { result.items ≡ map (T.placed frames) balls.now }
+// Into a list that one call keeps for all its poses: a new one is zeroed first, all 64 places of it.
+pub fn placed_all(frames: Frames, balls: &Balls, all: &mut Balls)
+    ensures { all.new.items ≡ map (T.placed frames) balls.now.items }
 {
-    let mut all = ArrayVec::new();
-    for ball in balls {
+    all.clear();
+    for ball in balls.iter() {
         all.push(placed(frames, *ball));
     }
-    all
 }

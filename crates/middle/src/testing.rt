@@ -8,6 +8,7 @@ use chain::{Joints, Prepared, ToolPose};
 use geometry::Vec3;
 
 // Not more than 1e-12 apart.
+#[tactic(auto, unfolding(crate::specs::Testing::as_near))]
 fn as_near(left: f64, right: f64) -> bool
     ensures { result ≡ S.as_near left right }
 {
@@ -35,6 +36,7 @@ pub fn lerp_joints(left: Joints, right: Joints) -> Joints
 }
 
 // The pose that joints reach, at tool length 0.
+#[tactic(auto, unfolding(crate::specs::Testing::pose_of))]
 pub fn pose_of(p: Prepared, j: Joints) -> ToolPose
     ensures { result ≡ S.pose_of p j }
 {
@@ -51,6 +53,7 @@ pub fn midpoint(p: Prepared, left: Item, right: Item) -> Item
 }
 
 // The tip reached in the middle, beside the middle of the two tips.
+#[tactic(auto, unfolding(crate::specs::Testing::tip_gap))]
 fn tip_gap(left: Item, right: Item, middle: Item) -> f64
     ensures { result ≡ S.tip_gap left right middle }
 {
@@ -61,6 +64,7 @@ fn tip_gap(left: Item, right: Item, middle: Item) -> f64
 }
 
 // The axis reached in the middle, beside the middle of the two axes that the joints reach.
+#[tactic(auto, unfolding(crate::specs::Testing::axis_gap))]
 fn axis_gap(left_axis: Vec3, right_axis: Vec3, middle: Item) -> f64
     ensures { result ≡ S.axis_gap left_axis right_axis middle }
 {
@@ -97,6 +101,7 @@ pub fn segment_within(p: Prepared, tol: Tolerances, left: Item, right: Item) -> 
 }
 
 // Whether the midpoint is near one of the two.
+#[tactic(auto, unfolding(crate::specs::Testing::near_an_end))]
 fn near_an_end(left: Item, right: Item, middle: Item) -> bool
     ensures { result ≡ S.near_an_end left right middle }
 {
@@ -108,6 +113,8 @@ fn near_an_end(left: Item, right: Item, middle: Item) -> bool
 
 // What becomes of two neighbours, of which the axes reached are at hand. They stand beside the items and not with them
 // in a struct: a call would read `verdict_with(p, tol, Reached { item: left, axis: left_axis }, Reached { .. })`.
+// Nor are the two items one struct, here, above or in machine: halving's test and midpoint (`divides`, `midpoint`) are
+// functions of two, and who calls has the two in two places, so that each call would make the struct for itself.
 pub fn verdict_with(
     p: Prepared,
     tol: Tolerances,

@@ -1,5 +1,6 @@
 -- Link frames: the frame that a chain's rotaries carry, each turned forth by its angle, the inner joint first. Tables stand still; heads move with the gauge point.
-use Rattle.std.specs.Prelude.{Bool, cond, ◌&&◌, List, [], ◌∷◌, ℕ, eqb, Float, Err, Ok, Result}
+use Rattle.std.specs.Prelude.{Bool, cond, ◌&&◌, List, [], ◌∷◌, ℕ, eqb, Float, Err, None, Ok, Option, Result, Some}
+use Rattle.geometry.specs.declared.Turn.{Turn}
 use Rattle.geometry.specs.declared.Vec3.{Vec3}
 use Rattle.geometry.specs.declared.Rigid.{Rigid}
 use Rattle.geometry.specs.Vector.{add}
@@ -8,14 +9,14 @@ use Rattle.geometry.specs.Rigid.{from_axes, identity, inverse, compose}
 use Rattle.refusal.specs.declared.Refusal.{Refusal}
 use Rattle.refusal.specs.declared.Cause.{Cause}
 use Rattle.chain.specs.Checked.{Checked}
-use Rattle.chain.specs.declared.Mount.{Mount}
+use Rattle.chain.specs.declared.Carrier.{Carrier}
 use Rattle.chain.specs.declared.Spin.{Spin}
 use Rattle.chain.specs.declared.Prepared.{Prepared}
 use Rattle.chain.specs.declared.Turns.{Turns}
 use Rattle.chain.specs.declared.Joints.{Joints}
 use Rattle.chain.specs.declared.Kinematics.{Kinematics}
 use Rattle.chain.specs.Check.{demand, first_refusal, joints_finite, joints_within, chain_within}
-use Rattle.chain.specs.Forward.{head_point, head_vector, table_point, table_vector}
+use Rattle.chain.specs.Forward.{by_second, head_point, head_vector, table_point, table_vector}
 use Rattle.chain.specs.Prepared.{prepared}
 use Rattle.model.specs.declared.LinkKind.{LinkKind}
 use Rattle.model.specs.declared.LinkKind.TheVariants.{Base, Table, Head, Rotary, Unknown}
@@ -26,17 +27,21 @@ unfoldable pub turns_forth : Float → Float → Turns
 turns_forth a0 a1 = record { first = turn_of a0; second = turn_of a1 }
 
 -- ---- the tables' chain and the heads', the inner joint first
+-- by one rotary after the other, where f is how a rotary takes a vector along
+abbrev pub carried : (Spin → Turn → Vec3 → Vec3) → Prepared → Turns → Vec3 → Vec3
+carried f p t v = f p.first t.first (by_second p.second (λ s. f s t.second) v)
+
 unfoldable pub table_map_point : Prepared → Turns → Vec3 → Vec3
-table_map_point p t v = table_point p.first t.first (table_point p.second t.second v)
+table_map_point p t v = table_point p.first t.first (by_second p.second (λ s. table_point s t.second) v)
 
 unfoldable pub table_map_direction : Prepared → Turns → Vec3 → Vec3
-table_map_direction p t v = table_vector p.first t.first (table_vector p.second t.second v)
+table_map_direction p t v = table_vector p.first t.first (by_second p.second (λ s. table_vector s t.second) v)
 
 unfoldable pub head_map_point : Prepared → Turns → Vec3 → Vec3
-head_map_point p t v = head_point p.first t.first (head_point p.second t.second v)
+head_map_point p t v = head_point p.first t.first (by_second p.second (λ s. head_point s t.second) v)
 
 unfoldable pub head_map_direction : Prepared → Turns → Vec3 → Vec3
-head_map_direction p t v = head_vector p.first t.first (head_vector p.second t.second v)
+head_map_direction p t v = head_vector p.first t.first (by_second p.second (λ s. head_vector s t.second) v)
 
 -- ---- frames: the identity, carried along
 unfoldable pub table_frame : Prepared → Turns → Rigid
@@ -51,27 +56,24 @@ head_frame p t xyz =
     (head_map_direction p t identity.axis_z)
 
 -- ---- one rotary, with all that carry it
-unfoldable pub rotary_at_index : Prepared → ℕ → Spin
-rotary_at_index p i = cond (eqb i 0) p.first p.second
+unfoldable pub rotary_at_index : Prepared → ℕ → Option Spin
+rotary_at_index p i = cond (eqb i 0) (Some p.first) p.second
 
 -- the rotaries up to and including that one
 unfoldable pub through : Prepared → ℕ → Prepared
-through p i =
-    cond (eqb i 0)
-    (record {
-      first = p.first;
-      second = record { mount = Mount.Absent; axis = p.second.axis; pivot = p.second.pivot };
-      spindle = p.spindle;
-    })
-    p
+through p i = cond (eqb i 0) (record { first = p.first; second = None; spindle = p.spindle }) p
 
-abbrev pub by_mount : Mount → Rigid → Rigid → Rigid
-by_mount Mount.Table by_table by_head = by_table
-by_mount Mount.Head by_table by_head = by_head
-by_mount Mount.Absent by_table by_head = identity
+abbrev pub by_carrier : Carrier → Rigid → Rigid → Rigid
+by_carrier Carrier.Table by_table by_head = by_table
+by_carrier Carrier.Head by_table by_head = by_head
+
+-- where there is no such rotary, the identity
+abbrev pub by_rotary : Option Spin → Rigid → Rigid → Rigid
+by_rotary (Some s) by_table by_head = by_carrier s.carrier by_table by_head
+by_rotary None by_table by_head = identity
 
 unfoldable pub rotary_frame : Prepared → Turns → Vec3 → ℕ → Rigid
-rotary_frame p t xyz i = by_mount (rotary_at_index p i).mount (table_frame (through p i) t) (head_frame (through p i) t xyz)
+rotary_frame p t xyz i = by_rotary (rotary_at_index p i) (table_frame (through p i) t) (head_frame (through p i) t xyz)
 
 abbrev pub frame_of : Prepared → Turns → Vec3 → LinkKind → Rigid
 frame_of p t xyz Base = identity

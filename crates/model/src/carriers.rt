@@ -9,16 +9,11 @@ use chain::Kinematics;
 fn rotary_named(k: Kinematics, letter: u8) -> LinkKind
     ensures { result ≡ S.rotary_named k letter }
 {
-    let first = k.first;
-    let second = k.second;
-    if first.letter == letter {
+    if k.first.letter == letter {
         return LinkKind::Rotary(0);
     }
-    if k.count == 2 {
-        if second.letter == letter {
-            return LinkKind::Rotary(1);
-        }
-        return LinkKind::Unknown;
+    if k.second_rotary().is_some_and(|s| s.letter == letter) {
+        return LinkKind::Rotary(1);
     }
     LinkKind::Unknown
 }

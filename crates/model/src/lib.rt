@@ -13,15 +13,24 @@ mod model_check;
 mod texts;
 
 pub use carriers::carrier_kind;
+use chain::Kinematics;
 use geometry::{Rigid, Vec3};
-pub use link_frame::{frame_of, link_in_part, link_world, turns_forth};
+pub use link_frame::{frame_of, turns_forth};
 pub use link_solid::solid_at;
 pub use model_bytes::{count_links, link_at, links_in, read_link, read_model};
-pub use model_check::{check_model, full_check};
 use refusal::Refusal;
-pub use texts::{same_bytes, text};
+pub use texts::text;
 
-// Where a link stands: the offsets of its name's length, of its carrier's length, of its kind, and past it.
+// A machine as the calls of a model take it: the name and the numbers of its chain, and the bytes of its model.
+#[derive(Clone, Copy)]
+pub struct MachineModel<'a> {
+    pub name: &'a [u8],
+    pub chain: Kinematics,
+    pub bytes: &'a [u8],
+}
+
+// Where a link stands: the offsets of its name's length, of its carrier's length, of its kind, and past it. They are no
+// slices: a link may reach past the bytes, and a breach is told by the offset of its field.
 #[derive(Clone, Copy)]
 pub struct Link {
     pub name: usize,
@@ -61,7 +70,10 @@ pub enum LinkKind {
     Base,
     Table,
     Head,
+    // 0 is the first. A number, as in the definitions (`rotary_at_index p i`, `through p i`), which hold of every one:
+    // over two variants they would be of another type.
     Rotary(u8),
-    // Nothing of the chain. As an Option, `carrier_kind` and `frame_of` would change and no call be shorter.
+    // Nothing of the chain. With an `Option<LinkKind>` the public `frame_of`, which answers for this kind too, would
+    // take one and match `None` where it matches this, and so would the definition `carrier_kind`.
     Unknown,
 }

@@ -1,19 +1,20 @@
 // Where a link stands at given joints: in the machine frame, and in the part frame. A chain runs from its inner joint
 // outwards, each rotary turned by its angle.
 ghost use Rattle.std.specs.Prelude.{◌≡◌};
+ghost use Rattle.chain.specs.Prepared.{prepared};
+ghost use Rattle.model.specs.Carrier.{carrier_kind};
 ghost use Rattle.model.specs.Frame as S;
 
-use crate::LinkKind;
 use crate::carriers::{carrier_kind, known};
-use crate::model_check::full_check;
+use crate::{LinkKind, MachineModel};
 use chain::{
-    Joints, Kinematics, Mount, Prepared, Spin, Turns, chain_within, demand, head_point,
+    Carrier, Joints, Kinematics, Prepared, Spin, Turns, chain_within, demand, head_point,
     head_vector, joints_finite, joints_within, prepare, table_point, table_vector,
 };
 use geometry::{Rigid, Turn, Vec3};
 use refusal::{Cause, Refusal};
 
-// Each rotary forth, by its angle.
+// Each rotary forth, by its angle: two numbers, since `Angles` is a type of crate inverse, on which no model stands.
 #[tactic(auto, unfolding(crate::specs::Frame::turns_forth))]
 pub fn turns_forth(a0: f64, a1: f64) -> Turns
     ensures { result ≡ S.turns_forth a0 a1 }
@@ -23,38 +24,18 @@ pub fn turns_forth(a0: f64, a1: f64) -> Turns
     Turns { first, second }
 }
 
-// These four stay apart: one function over `table_point` or `head_point` as a parameter would be called as
-// `carried(table_point, p, turns, point)`, and its contract would be of any such function.
-#[tactic(auto, unfolding(crate::specs::Frame::table_map_point))]
-fn table_map_point(p: Prepared, turns: Turns, point: Vec3) -> Vec3
-    ensures { result ≡ S.table_map_point p turns point }
+// A point or a direction with the inner rotary turned, then the first one: `turned` is how one rotary takes it along,
+// of a table or of a head. The two frames below stay apart: one of both would take a function for points and one for
+// directions, and hand the second on three times.
+//
+// A chain and its turns are two parameters, as in crate chain, to whose functions they go on: of a struct of both
+// `table_frame(part, turns)` would be `Turned { p: &part, turns: &turns }.table_frame()`.
+fn carried<F: Fn(Spin, Turn, Vec3) -> Vec3>(p: Prepared, turns: Turns, v: Vec3, turned: F) -> Vec3
+    requires { F.IsAlwaysCallable turned }
+    ensures { (f : Spin → Turn → Vec3 → Vec3) → ((s : Spin) (t : Turn) (u : Vec3) (r : Vec3) → F.post turned s t u r → r ≡ f s t u) → result ≡ S.carried f p turns v }
 {
-    let inner = table_point(p.second, turns.second, point);
-    table_point(p.first, turns.first, inner)
-}
-
-#[tactic(auto, unfolding(crate::specs::Frame::table_map_direction))]
-fn table_map_direction(p: Prepared, turns: Turns, v: Vec3) -> Vec3
-    ensures { result ≡ S.table_map_direction p turns v }
-{
-    let inner = table_vector(p.second, turns.second, v);
-    table_vector(p.first, turns.first, inner)
-}
-
-#[tactic(auto, unfolding(crate::specs::Frame::head_map_point))]
-fn head_map_point(p: Prepared, turns: Turns, point: Vec3) -> Vec3
-    ensures { result ≡ S.head_map_point p turns point }
-{
-    let inner = head_point(p.second, turns.second, point);
-    head_point(p.first, turns.first, inner)
-}
-
-#[tactic(auto, unfolding(crate::specs::Frame::head_map_direction))]
-fn head_map_direction(p: Prepared, turns: Turns, v: Vec3) -> Vec3
-    ensures { result ≡ S.head_map_direction p turns v }
-{
-    let inner = head_vector(p.second, turns.second, v);
-    head_vector(p.first, turns.first, inner)
+    let inner = p.second.map_or(v, |s| turned(s, turns.second, v));
+    turned(p.first, turns.first, inner)
 }
 
 // The frame that the tables carry: rigid_from_spins of the table chain.
@@ -63,10 +44,12 @@ fn table_frame(p: Prepared, turns: Turns) -> Rigid
     ensures { result ≡ S.table_frame p turns }
 {
     let still = Rigid::identity();
-    let origin = table_map_point(p, turns, still.origin);
-    let axis_x = table_map_direction(p, turns, still.axis_x);
-    let axis_y = table_map_direction(p, turns, still.axis_y);
-    let axis_z = table_map_direction(p, turns, still.axis_z);
+    let point = |s: Spin, turn: Turn, v: Vec3| table_point(s, turn, v);
+    let vector = |s: Spin, turn: Turn, v: Vec3| table_vector(s, turn, v);
+    let origin = carried(p, turns, still.origin, point);
+    let axis_x = carried(p, turns, still.axis_x, vector);
+    let axis_y = carried(p, turns, still.axis_y, vector);
+    let axis_z = carried(p, turns, still.axis_z, vector);
     Rigid::from_axes(origin, axis_x, axis_y, axis_z)
 }
 
@@ -76,19 +59,21 @@ fn head_frame(p: Prepared, turns: Turns, xyz: Vec3) -> Rigid
     ensures { result ≡ S.head_frame p turns xyz }
 {
     let still = Rigid::identity();
-    let origin = head_map_point(p, turns, still.origin) + xyz;
-    let axis_x = head_map_direction(p, turns, still.axis_x);
-    let axis_y = head_map_direction(p, turns, still.axis_y);
-    let axis_z = head_map_direction(p, turns, still.axis_z);
+    let point = |s: Spin, turn: Turn, v: Vec3| head_point(s, turn, v);
+    let vector = |s: Spin, turn: Turn, v: Vec3| head_vector(s, turn, v);
+    let origin = carried(p, turns, still.origin, point) + xyz;
+    let axis_x = carried(p, turns, still.axis_x, vector);
+    let axis_y = carried(p, turns, still.axis_y, vector);
+    let axis_z = carried(p, turns, still.axis_z, vector);
     Rigid::from_axes(origin, axis_x, axis_y, axis_z)
 }
 
 #[tactic(auto, unfolding(crate::specs::Frame::rotary_at_index))]
-fn rotary_at_index(p: Prepared, index: u8) -> Spin
+fn rotary_at_index(p: Prepared, index: u8) -> Option<Spin>
     ensures { result ≡ S.rotary_at_index p index }
 {
     if index == 0 {
-        return p.first;
+        return Some(p.first);
     }
     p.second
 }
@@ -99,21 +84,7 @@ fn through(p: Prepared, index: u8) -> Prepared
     ensures { result ≡ S.through p index }
 {
     if index == 0 {
-        let first = p.first;
-        let inner = p.second;
-        let axis = inner.axis;
-        let pivot = inner.pivot;
-        let spindle = p.spindle;
-        let second = Spin {
-            mount: Mount::Absent,
-            axis,
-            pivot,
-        };
-        return Prepared {
-            first,
-            second,
-            spindle,
-        };
+        return Prepared { second: None, ..p };
     }
     p
 }
@@ -123,13 +94,13 @@ fn through(p: Prepared, index: u8) -> Prepared
 fn rotary_frame(p: Prepared, turns: Turns, xyz: Vec3, index: u8) -> Rigid
     ensures { result ≡ S.rotary_frame p turns xyz index }
 {
-    let spin = rotary_at_index(p, index);
-    let mount = spin.mount;
+    let Some(spin) = rotary_at_index(p, index) else {
+        return Rigid::identity();
+    };
     let part = through(p, index);
-    match mount {
-        Mount::Table => table_frame(part, turns),
-        Mount::Head => head_frame(part, turns, xyz),
-        Mount::Absent => Rigid::identity(),
+    match spin.carrier {
+        Carrier::Table => table_frame(part, turns),
+        Carrier::Head => head_frame(part, turns, xyz),
     }
 }
 
@@ -152,56 +123,52 @@ fn frame_sizes(k: Kinematics, j: Joints) -> bool
     joints_within(j) && chain_within(k)
 }
 
-#[tactic(auto, unfolding(crate::specs::Frame::frame_check))]
-fn frame_check(
-    name: &[u8],
-    k: Kinematics,
-    bytes: &[u8],
-    j: Joints,
-    kind: LinkKind,
-) -> Result<(), Refusal>
-    ensures { result ≡ S.frame_check name.now k bytes.now j kind }
-{
-    full_check(name, k, bytes)?;
-    demand(joints_finite(j), Cause::NotFinite, 0)?;
-    demand(known(kind), Cause::CarrierUnknown, 0)?;
-    demand(frame_sizes(k, j), Cause::TooLarge, 0)
-}
+impl MachineModel<'_> {
+    #[tactic(auto, unfolding(crate::specs::Frame::frame_check))]
+    fn frame_check(&self, j: Joints, kind: LinkKind) -> Result<(), Refusal>
+        ensures { result ≡ S.frame_check self.now.name.now self.now.chain self.now.bytes.now j kind }
+    {
+        self.full_check()?;
+        demand(joints_finite(j), Cause::NotFinite, 0)?;
+        demand(known(kind), Cause::CarrierUnknown, 0)?;
+        demand(frame_sizes(self.chain, j), Cause::TooLarge, 0)
+    }
 
-// The placement of what the carrier bytes name, in the machine frame, or the first refusal.
-#[tactic(auto, unfolding(crate::specs::Frame::link_world))]
-pub fn link_world(
-    name: &[u8],
-    k: Kinematics,
-    bytes: &[u8],
-    j: Joints,
-    carrier: &[u8],
-) -> Result<Rigid, Refusal>
-    ensures { result ≡ S.link_world name.now k bytes.now j carrier.now }
-{
-    let kind = carrier_kind(k, carrier);
-    frame_check(name, k, bytes, j, kind)?;
-    let p = prepare(k);
-    let turns = turns_forth(j.a0, j.a1);
-    Ok(frame_of(p, turns, j.xyz, kind))
-}
+    // What `frame` makes of the chain turned to the joints and of what the carrier bytes name, or the first refusal.
+    fn placed<F: FnOnce(Prepared, Turns, LinkKind) -> Rigid>(
+        &self,
+        frame: F,
+        j: Joints,
+        carrier: &[u8],
+    ) -> Result<Rigid, Refusal>
+        requires { F.IsAlwaysCallable frame }
+        ensures { let m = self.now in (f : Prepared → Turns → LinkKind → Rigid) → ((p : Prepared) (t : Turns) (kind : LinkKind) (r : Rigid) → F.post frame p t kind r → r ≡ f p t kind) → result ≡ S.placed_unless (S.frame_check m.name.now m.chain m.bytes.now j (carrier_kind m.chain carrier.now)) (f (prepared m.chain) (S.turns_forth j.a0 j.a1) (carrier_kind m.chain carrier.now)) }
+    {
+        let kind = carrier_kind(self.chain, carrier);
+        self.frame_check(j, kind)?;
+        let p = prepare(self.chain);
+        let turns = turns_forth(j.a0, j.a1);
+        Ok(frame(p, turns, kind))
+    }
 
-// The same in the part frame, which rides on the tables.
-#[tactic(auto, unfolding(crate::specs::Frame::link_in_part))]
-pub fn link_in_part(
-    name: &[u8],
-    k: Kinematics,
-    bytes: &[u8],
-    j: Joints,
-    carrier: &[u8],
-) -> Result<Rigid, Refusal>
-    ensures { result ≡ S.link_in_part name.now k bytes.now j carrier.now }
-{
-    let kind = carrier_kind(k, carrier);
-    frame_check(name, k, bytes, j, kind)?;
-    let p = prepare(k);
-    let turns = turns_forth(j.a0, j.a1);
-    let world = frame_of(p, turns, j.xyz, kind);
-    let part = table_frame(p, turns).inverse();
-    Ok(part.compose(world))
+    // The placement of what the carrier bytes name, in the machine frame, or the first refusal.
+    #[tactic(auto, unfolding(crate::specs::Frame::link_world))]
+    pub fn link_world(&self, j: Joints, carrier: &[u8]) -> Result<Rigid, Refusal>
+        ensures { result ≡ S.link_world self.now.name.now self.now.chain self.now.bytes.now j carrier.now }
+    {
+        let in_machine = |p, turns, kind| frame_of(p, turns, j.xyz, kind);
+        self.placed(in_machine, j, carrier)
+    }
+
+    // The same in the part frame, which rides on the tables.
+    #[tactic(auto, unfolding(crate::specs::Frame::link_in_part))]
+    pub fn link_in_part(&self, j: Joints, carrier: &[u8]) -> Result<Rigid, Refusal>
+        ensures { result ≡ S.link_in_part self.now.name.now self.now.chain self.now.bytes.now j carrier.now }
+    {
+        let in_part = |p, turns, kind| {
+            let part = table_frame(p, turns).inverse();
+            part.compose(frame_of(p, turns, j.xyz, kind))
+        };
+        self.placed(in_part, j, carrier)
+    }
 }

@@ -65,6 +65,8 @@ fn kind_good(bytes: &[u8], kind: usize) -> bool
     kind < bytes.len() && bytes[kind] < 2
 }
 
+// The bound here, in `whole_vector` and in `last_number` is of sums that the refusals say: a test of `at + 8` stands
+// beside `(at + 8) as u64`, and `bytes.get(at..)` here would leave the bound there.
 #[tactic(auto, unfolding(crate::specs::Model::whole_number))]
 fn whole_number(bytes: &[u8], at: usize) -> bool
     requires { at + 8 < 2 ^ 64 }
@@ -119,7 +121,8 @@ fn number_fields(bytes: &[u8], link: Link) -> Result<(), Refusal>
     )
 }
 
-// What the bytes of a link must be.
+// What the bytes of a link must be. The bytes and the link are two: the bytes are one for a model, and a struct of both
+// would be made for each link to call this, `LinkIn { bytes, link }.fields()`.
 #[tactic(auto, unfolding(crate::specs::Model::link_fields))]
 pub fn link_fields(bytes: &[u8], link: Link) -> Result<(), Refusal>
     ensures { result ≡ S.link_fields bytes.now link }

@@ -8,9 +8,3 @@ pub fn text(bytes: &[u8], from: usize, to: usize) -> &[u8]
 {
     bytes.get(from..to).unwrap_or(&[])
 }
-
-pub fn same_bytes(left: &[u8], right: &[u8]) -> bool
-    ensures { result ≡ S.same_bytes left.now right.now }
-{
-    left == right
-}

@@ -10,7 +10,7 @@ use lib.ListN.{length}
 use lib.Ieee.{Float, binary64, lt}
 use lib.Ieee.Fits.{mul-fits}
 use lib.Ieee.Scale.{finite}
-use Rattle.std.specs.Prelude.{Err, Ok, Option}
+use Rattle.std.specs.Prelude.{Err, None, Ok, Option, Some}
 use Rattle.float.proofs.Commute.{mul_commutes, square_sub_symmetric}
 use Rattle.refusal.specs.declared.Refusal.{Refusal}
 use Rattle.refusal.specs.declared.Cause.{Cause}
@@ -22,12 +22,12 @@ use Rattle.geometry.specs.Direction.{all_finite}
 use Rattle.chain.specs.declared.Joints.{Joints}
 use Rattle.chain.specs.Checked.{Checked}
 use Rattle.chain.specs.declared.Kinematics.{Kinematics}
-use Rattle.chain.specs.declared.Mount.{Mount}
-use Rattle.chain.specs.declared.Mount.TheVariants.{Table, Head, Absent}
+use Rattle.chain.specs.declared.Carrier.{Carrier}
+use Rattle.chain.specs.declared.Carrier.TheVariants.{Table, Head}
 use Rattle.chain.specs.declared.RotaryJoint.{RotaryJoint}
 use Rattle.chain.proofs.Passing.{refused_passed}
 use Rattle.chain.specs.Check.{demand, then, first_refusal, travel_good, has_direction, known_letter, other_letter, rotary_check, one_or_two, second_check, chain_check}
-use Rattle.chain.specs.Prepared.{unit_axis, mount_of, spin_of, second_spin, prepared}
+use Rattle.chain.specs.Prepared.{unit_axis, spin_of, second_spin, prepared}
 use Rattle.inverse.specs.Subproblem.{shortest, sp2}
 use Rattle.inverse.specs.AxisMap.{map_of, axis_map_of}
 use Rattle.inverse.specs.Orientation.{raw_pair, two_joint_angles}
@@ -35,7 +35,7 @@ use Rattle.inverse.specs.declared.Angles.{Angles}
 use Rattle.path.specs.Locking.{placed_at, locked_angles, locked_joints}
 use Rattle.path.specs.Posing.{set_up}
 use Rattle.path.specs.Solving.{Kept, whole_records, cone_good, parallel, path_chain, start_finite, path_sizes, solve_check, solve_path}
-use Rattle.path.specs.Unwinding.{unwind_angles}
+use Rattle.path.specs.Unwinding.{unwind_angles, has_second}
 
 -- ---- the chain check of a path
 pub parallel_refused : (k : Kinematics) → chain_check k ≡ Ok tt → parallel k ≡ true → path_chain k ≡ Err (refusal Cause.ParallelRotaries 0)
@@ -66,7 +66,7 @@ abbrev other : Checked → Bool
 other (Ok _) = true
 other (Err r) = not (is_parallel r.cause)
 
-rotary_other : (j : RotaryJoint) (earlier i : ℕ) → other (rotary_check j earlier i) ≡ true
+rotary_other : (j : RotaryJoint) (earlier : Option ℕ) (i : ℕ) → other (rotary_check j earlier i) ≡ true
 unfolding rotary_check
 rotary_other j earlier i =
     go (known_letter j.letter) (other_letter j.letter earlier) (all_finite j.axis) (has_direction j.axis) (all_finite j.pivot) (travel_good j.limits) (finite j.rest)
@@ -84,7 +84,7 @@ rotary_other j earlier i =
 
 second_other : (k : Kinematics) → other (second_check k) ≡ true
 unfolding second_check
-second_other k = go (eqb k.count 2) (rotary_check k.second k.first.letter 1) (rotary_other k.second k.first.letter 1)
+second_other k = go (eqb k.count 2) (rotary_check k.second (Some k.first.letter) 1) (rotary_other k.second (Some k.first.letter) 1)
   where
     go : (two : Bool) (c : Checked) → other c ≡ true → other (cond two c (Ok tt)) ≡ true
     go true c h = h
@@ -93,7 +93,7 @@ second_other k = go (eqb k.count 2) (rotary_check k.second k.first.letter 1) (ro
 chain_other : (k : Kinematics) → other (chain_check k) ≡ true
 unfolding chain_check
 chain_other k =
-    go (one_or_two k.count) (rotary_check k.first 0 0) (second_check k) (all_finite k.spindle_axis) (has_direction k.spindle_axis) (rotary_other k.first 0 0)
+    go (one_or_two k.count) (rotary_check k.first None 0) (second_check k) (all_finite k.spindle_axis) (has_direction k.spindle_axis) (rotary_other k.first None 0)
     (second_other k)
   where
     go : (a : Bool) (first second : Checked) (d e : Bool) → other first ≡ true → other second ≡ true
@@ -154,18 +154,15 @@ pub norm_cross : (a b : Vec3) → norm (cross a b) ≡ norm (cross b a)
 unfolding norm dot cross
 norm_cross a b = rw (square_swapped a.y b.z a.z b.y, square_swapped a.z b.x a.x b.z, square_swapped a.x b.y a.y b.x)
 
--- whatever the mounts, the orientation equation has the rotaries' axes in one order or the other
-either_order : (m n : Mount) (a b : Vec3) → norm (cross (map_of m n a b).wa (map_of m n a b).wb) ≡ norm (cross a b)
+-- whatever the carriers, the orientation equation has the rotaries' axes in one order or the other
+either_order : (m n : Carrier) (a b : Vec3) → norm (cross (map_of m n a b).wa (map_of m n a b).wb) ≡ norm (cross a b)
 either_order Table Table a b = norm_cross b a
 either_order Table Head a b = refl
-either_order Table Absent a b = refl
 either_order Head Table a b = norm_cross b a
 either_order Head Head a b = refl
-either_order Head Absent a b = refl
-either_order Absent n a b = refl
 
 module _ (k : Kinematics) (two : k.count ≡ 2) (left : parallel k ≡ false) where
-  second_is : (prepared k).second ≡ spin_of k.second
+  second_is : (prepared k).second ≡ Some (spin_of k.second)
   unfolding prepared second_spin
   second_is = rw two
 
@@ -175,7 +172,7 @@ module _ (k : Kinematics) (two : k.count ≡ 2) (left : parallel k ≡ false) wh
 
   pub axes_apart : lt (norm (cross (axis_map_of (prepared k)).wa (axis_map_of (prepared k)).wb)) shortest ≡ false
   unfolding axis_map_of prepared spin_of
-  axes_apart = rw (second_is, either_order (mount_of k.first.carrier) (mount_of k.second.carrier) (unit_axis k.first.axis) (unit_axis k.second.axis)) not_short
+  axes_apart = rw (second_is, either_order k.first.carrier k.second.carrier (unit_axis k.first.axis) (unit_axis k.second.axis)) not_short
 
   -- of the two-rotary solution subproblem 2 alone is left, which takes no hint but for an angle that the pose leaves free
   pub no_parallel_branch : (spindle target : Vec3) (hint : Angles)
@@ -186,6 +183,6 @@ module _ (k : Kinematics) (two : k.count ≡ 2) (left : parallel k ≡ false) wh
   -- and the lock inside the cone is not refused for them
   pub no_parallel_lock : (cone : Float) (onSecond : Bool) (target tip : Vec3) (previous : Angles)
       → locked_joints (set_up k cone) onSecond target tip previous
-      ≡ placed_at (prepared k) tip (unwind_angles (set_up k cone).bounds.two (locked_angles (axis_map_of (prepared k)) onSecond (prepared k).spindle target previous) previous)
+      ≡ placed_at (prepared k) tip (unwind_angles (has_second (set_up k cone).bounds) (locked_angles (axis_map_of (prepared k)) onSecond (prepared k).spindle target previous) previous)
   unfolding locked_joints set_up
   no_parallel_lock cone onSecond target tip previous = rw axes_apart

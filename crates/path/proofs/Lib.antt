@@ -6,6 +6,7 @@ pub mod UnwoundBounds
 pub mod OneEnough
 pub mod Walking
 pub mod Room
+pub mod SecondBound
 pub mod Promises
 pub mod Along
 pub mod Apart

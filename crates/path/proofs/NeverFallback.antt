@@ -16,6 +16,7 @@ use lib.ListN.{length}
 use lib.Ieee as Ieee
 use lib.Ieee.{Float}
 use Rattle.std.specs.Prelude.{Err, None, Ok, Option, Result, Some}
+use Rattle.std.specs.Option.{unwrap_or}
 use Rattle.lists.specs.Each.{Each}
 use Rattle.float.specs.Helpers.{nought}
 use Rattle.refusal.specs.declared.Refusal.{Refusal}
@@ -31,8 +32,7 @@ use Rattle.geometry.proofs.UnitSize.{unit_small}
 use Rattle.chain.specs.Checked.{Checked}
 use Rattle.chain.specs.declared.Joints.{Joints}
 use Rattle.chain.specs.declared.Kinematics.{Kinematics}
-use Rattle.chain.specs.declared.Mount.{Mount}
-use Rattle.chain.specs.declared.Mount.TheVariants.{Table, Head, Absent}
+use Rattle.chain.specs.declared.Spin.{Spin}
 use Rattle.chain.specs.declared.Prepared.{Prepared}
 use Rattle.chain.specs.declared.ToolPose.{ToolPose}
 use Rattle.chain.specs.Check.{chain_check, all_within, longest}
@@ -40,16 +40,16 @@ use Rattle.chain.specs.Forward.{turns_of, reach, forward_core}
 use Rattle.chain.specs.Prepared.{prepared}
 use Rattle.chain.proofs.UnitAxes.{FitAxes, SecondUnit, UnitChain, chain_units}
 use Rattle.inverse.specs.Subproblem.{shortest}
-use Rattle.inverse.specs.AxisMap.{axis_map_of}
+use Rattle.inverse.specs.AxisMap.{inner_of, axis_map_of}
 use Rattle.inverse.specs.Orientation.{orientation_angles}
 use Rattle.inverse.specs.Solutions.{origin}
 use Rattle.inverse.specs.Inverse.{pose_at, misses}
 use Rattle.inverse.specs.declared.Angles.{Angles}
-use Rattle.inverse.specs.declared.RawPair.{RawPair}
+use Rattle.inverse.specs.UpToTwo.{RawPair}
 use Rattle.inverse.proofs.AngleBounds.{PairUpTo, BothTurnable}
 use Rattle.inverse.proofs.Arctangents.{plain_sp1, orientation_with, orientation_plain, axis_units}
 use Rattle.inverse.proofs.InnerForward.{inner_forward, inner_forward_is, plain_joints, joints_plain}
-use Rattle.path.specs.Unwinding.{unwind_angles}
+use Rattle.path.specs.Unwinding.{unwind_angles, has_second}
 use Rattle.path.specs.Singular.{millionth, frame_of_two, of_two, singular_frame, in_singular_cone, nearest_pole}
 use Rattle.path.specs.Locking.{refused, within_limits, locked_angles, finite_position, placed_at, locked_joints, strays, limited, unless_straying, cone_solution}
 use Rattle.path.specs.Exact.{reached_by, candidate, angles_of, repeats, second_candidate, of_positions, of_raw, exact_pose}
@@ -92,7 +92,7 @@ unfoldable pub plain_locked : Setup → Bool → Vec3 → Vec3 → Angles → Re
 plain_locked s onSecond target tip previous =
     cond (Ieee.lt (norm (cross (axis_map_of s.chain).wa (axis_map_of s.chain).wb)) shortest) (refused Cause.PoseUnreachable)
     (plain_placed s.chain tip
-    (unwind_angles s.bounds.two (plain_locked_angles (axis_map_of s.chain) onSecond s.chain.spindle target previous) previous))
+    (unwind_angles (has_second s.bounds) (plain_locked_angles (axis_map_of s.chain) onSecond s.chain.spindle target previous) previous))
 
 unfoldable pub plain_angle_between : Vec3 → Vec3 → Float
 plain_angle_between left right = along (unit_direction left) half_turn_degrees (λ a. along (unit_direction right) half_turn_degrees (λ b. plain_angle a b))
@@ -132,7 +132,7 @@ unfoldable pub plain_set_up : Kinematics → Float → Setup
 plain_set_up k cone = record {
   chain = prepared k;
   bounds = bounds_of k;
-  frame = of_two (prepared k).second.mount (loop_frame (prepared k).first.axis (prepared k).second.axis (prepared k).spindle);
+  frame = of_two (prepared k).second (λ second. loop_frame (prepared k).first.axis second.axis (prepared k).spindle);
   cone = cone;
 }
 
@@ -149,10 +149,13 @@ abbrev is_singular : Option SingularFrame → Bool
 is_singular (Some f) = true
 is_singular None = false
 
-two_of : (m : Mount) (v : Vec3) (frame : Option SingularFrame) (f : SingularFrame) → SecondUnit m v → of_two m frame ≡ Some f → SmallVec 1 v × (frame ≡ Some f)
-two_of Absent v frame f S e = absurd (false≢true (ap is_singular e))
-two_of Table v frame f S e = (S.small, e)
-two_of Head v frame f S e = (S.small, e)
+two_of : (o : Option Spin) (first : Spin) (frame : Spin → Option SingularFrame) (f : SingularFrame) → SecondUnit o → of_two o frame ≡ Some f → SmallVec 1 (unwrap_or o first).axis × (frame (unwrap_or o first) ≡ Some f)
+two_of None first frame f S e = absurd (false≢true (ap is_singular e))
+two_of (Some s) first frame f S e = (S.small, e)
+
+frames_same : (o : Option Spin) (f g : Spin → Option SingularFrame) → ((s : Spin) → f s ≡ g s) → of_two o f ≡ of_two o g
+frames_same None f g h = refl
+frames_same (Some s) f g h = h s
 
 module _ (k : Kinematics) (cone : Float) (F : FitAxes k) (passed : chain_check k ≡ Ok tt) where
   units : UnitChain (prepared k)
@@ -162,8 +165,8 @@ module _ (k : Kinematics) (cone : Float) (F : FitAxes k) (passed : chain_check k
   unfolding singular_frame
   framed f e =
       let p = prepared k in
-      let t = two_of p.second.mount p.second.axis (frame_of_two p.first.axis p.second.axis p.spindle) f units.second e in
-      (subst FrameSmall t.1 (two_small p.first.axis p.second.axis p.spindle units.first.small t.0), axis_units p units.first.small t.0)
+      let t = two_of p.second p.first (λ second. frame_of_two p.first.axis second.axis p.spindle) f units.second e in
+      (subst FrameSmall t.1 (two_small p.first.axis (inner_of p).axis p.spindle units.first.small t.0), axis_units p units.first.small t.0)
 
   set_up_is : SetUp (set_up k cone)
   unfolding set_up
@@ -172,8 +175,9 @@ module _ (k : Kinematics) (cone : Float) (F : FitAxes k) (passed : chain_check k
   set_up_plain : set_up k cone ≡ plain_set_up k cone
   unfolding set_up plain_set_up singular_frame
   set_up_plain =
-      ap (λ (f : Option SingularFrame). record { chain = prepared k; bounds = bounds_of k; frame = of_two (prepared k).second.mount f; cone = cone })
-      (frame_loop (prepared k).first.axis (prepared k).second.axis (prepared k).spindle units.first.small units.spindle.small)
+      ap (λ (f : Option SingularFrame). record { chain = prepared k; bounds = bounds_of k; frame = f; cone = cone })
+      (frames_same (prepared k).second (λ second. frame_of_two (prepared k).first.axis second.axis (prepared k).spindle) (λ second. loop_frame (prepared k).first.axis second.axis (prepared k).spindle)
+      (λ second. frame_loop (prepared k).first.axis second.axis (prepared k).spindle units.first.small units.spindle.small))
 
 -- ---- one pose: a unit target, from angles within 36,000 degrees
 through : {A B : Type 0} (f : A → B) (b : Bool) (n y : A) (x : B) → x ≡ f y → cond b (f n) x ≡ f (cond b n y)
@@ -237,8 +241,8 @@ module _ (s : Setup) (G : SetUp s) (target tip : Vec3) (R : SmallVec 1 target) (
         let g = G.framed f e in
         let m = axis_map_of s.chain in
         ap (λ (a : Result Joints Refusal). cond (Ieee.lt (norm (cross m.wa m.wb)) shortest) (refused Cause.PoseUnreachable) a)
-        (placed_plain s.chain G.units tip (unwind_angles s.bounds.two (locked_angles m f.on_second s.chain.spindle toward previous) previous) (turns.locked f.on_second toward)
-        ∙ ap (λ (a : Angles). plain_placed s.chain tip (unwind_angles s.bounds.two a previous)) (locked_plain m s.chain.spindle toward g.1.0 g.1.1 G.units.spindle.small D previous turns.lock_x turns.lock_y f.on_second))
+        (placed_plain s.chain G.units tip (unwind_angles (has_second s.bounds) (locked_angles m f.on_second s.chain.spindle toward previous) previous) (turns.locked f.on_second toward)
+        ∙ ap (λ (a : Angles). plain_placed s.chain tip (unwind_angles (has_second s.bounds) a previous)) (locked_plain m s.chain.spindle toward g.1.0 g.1.1 G.units.spindle.small D previous turns.lock_x turns.lock_y f.on_second))
 
     cone_plain : cone_solution s f target tip previous ≡ plain_cone s f target tip previous
     unfolding cone_solution plain_cone

@@ -3,6 +3,10 @@
 use mathlib.Core.Path.{◌≡◌, refl, ap, ◌∙◌}
 use mathlib.Core.Bool.{Bool, true, false, cond, ◌&&◌, false≢true, and-eq-true_iff}
 use mathlib.Core.Logic.{◌⊎◌, inl, inr}
+use mathlib.Core.List.{List}
+use mir.Val.{Val}
+use denote.Laws.{Is}
+use borrow.Author.Rules.{rules}
 use Rattle.std.specs.Prelude.{None, Ok, Option, Some}
 use Rattle.float.specs.Helpers.{nought}
 use Rattle.float.specs.TotalOrder.{before}
@@ -10,28 +14,48 @@ use Rattle.geometry.specs.declared.Vec3.{Vec3}
 use Rattle.geometry.proofs.Bounded.{SmallVec}
 use Rattle.geometry.proofs.FitVectors.{FitVec}
 use Rattle.chain.specs.declared.Joints.{Joints}
-use Rattle.chain.specs.declared.Mount.{Mount}
-use Rattle.chain.specs.declared.Mount.TheVariants.{Table, Head, Absent}
 use Rattle.chain.specs.declared.Prepared.{Prepared}
 use Rattle.chain.specs.declared.Spin.{Spin}
+use Rattle.geometry.specs.contracts.Vec3 as VectorRow
+use Rattle.std.specs.contracts.option.Option as OptionRow
+use Rattle.chain.specs.contracts.Spin as SpinRow
+use Rattle.chain.specs.contracts.Prepared as PreparedRow
 use Rattle.chain.specs.Check.{within, all_within, longest}
+use Rattle.chain.specs.Forward.{of_second}
 use Rattle.inverse.specs.Wraps.{same_angles}
 use Rattle.inverse.specs.Inverse.{pose_at, misses, joints_at}
 use Rattle.inverse.specs.declared.Angles.{Angles}
-use Rattle.path.specs.Unwinding.{unwind_angles, inside}
+use Rattle.path.specs.Unwinding.{unwind_angles, inside, has_second}
 use Rattle.path.specs.Locking.{within_limits}
 use Rattle.path.specs.Exact.{reached_by, angles_of, repeats, second_candidate, unwound, ranked, ranks_before, closest_or_other, of_ranked, alone, both, of_candidates, of_positions, of_raw}
 use Rattle.path.specs.Closest.{bounded_spin, bounded, turned_to, kept_at, kept_of, kept, distance, closer, closest_alone}
 use Rattle.path.specs.declared.Bounds.{Bounds}
 use Rattle.path.specs.declared.Setup.{Setup}
-use Rattle.path.proofs.Positions.{SmallSpin, SmallChain, within_small, candidate_finite}
+use Rattle.path.proofs.Positions.{SmallOf, SmallSecond, SmallChain, within_small, candidate_finite}
 
 -- ---- the numbers are doubles, as every value that code has
 abbrev pub FitSpin : Spin → Type 0
 FitSpin s = FitVec s.axis × FitVec s.pivot
 
+abbrev pub FitSecond : Option Spin → Type 0
+FitSecond None = Unit {0}
+FitSecond (Some s) = FitSpin s
+
 abbrev pub FitChain : Prepared → Type 0
-FitChain p = FitSpin p.first × FitSpin p.second × FitVec p.spindle
+FitChain p = FitSpin p.first × FitSecond p.second × FitVec p.spindle
+
+vector_fits : (v : Vec3) (vs : List Val) → Is VectorRow.the_row v vs → FitVec v
+vector_fits v vs g = (search (rules, g), search (rules, g), search (rules, g))
+
+spin_fits : (s : Spin) (vs : List Val) → Is SpinRow.the_row s vs → FitSpin s
+spin_fits s vs g = (vector_fits s.axis _ g.1.1.1.0, vector_fits s.pivot _ g.1.1.1.1.0)
+
+second_fits : (o : Option Spin) (vs : List Val) → Is (OptionRow.the_row SpinRow.the_row) o vs → FitSecond o
+second_fits None vs g = tt
+second_fits (Some s) vs g = ((search (rules, g), search (rules, g), search (rules, g)), (search (rules, g), search (rules, g), search (rules, g)))
+
+pub prepared_fits : (p : Prepared) (vs : List Val) → Is PreparedRow.the_row p vs → FitChain p
+prepared_fits p vs g = (spin_fits p.first _ g.1.1.0, second_fits p.second _ g.1.1.1.0, vector_fits p.spindle _ g.1.1.1.1.0)
 
 vec_small : (v : Vec3) → FitVec v → all_within v longest ≡ true → SmallVec 17 v
 unfolding all_within
@@ -41,24 +65,23 @@ vec_small v F h =
     (within_small v.x F.0 xy.0, within_small v.y F.1 xy.1, within_small v.z F.2 xyz.1)
 
 -- ---- what is bounded is small
-both_small : (axis pivot : Vec3) → FitVec axis → FitVec pivot → (all_within axis longest && all_within pivot longest) ≡ true → SmallVec 17 axis × SmallVec 17 pivot
-both_small axis pivot A P h = let w = (and-eq-true_iff (all_within axis longest) (all_within pivot longest)).0 h in (vec_small axis A w.0, vec_small pivot P w.1)
+spin_small : (s : Spin) → FitSpin s → bounded_spin s ≡ true → SmallOf s
+spin_small s F h = let w = (and-eq-true_iff (all_within s.axis longest) (all_within s.pivot longest)).0 h in (vec_small s.axis F.0 w.0, vec_small s.pivot F.1 w.1)
 
-spin_small : (m : Mount) (axis pivot : Vec3) → FitVec axis → FitVec pivot → bounded_spin m axis pivot ≡ true → SmallSpin m axis pivot
-spin_small Table axis pivot A P h = both_small axis pivot A P h
-spin_small Head axis pivot A P h = both_small axis pivot A P h
-spin_small Absent axis pivot A P h = tt
+second_small : (o : Option Spin) → FitSecond o → of_second o true bounded_spin ≡ true → SmallSecond o
+second_small (Some s) F h = spin_small s F h
+second_small None F h = tt
 
 chain_small : (p : Prepared) → FitChain p → bounded p ≡ true → SmallChain p
 unfolding bounded
 chain_small p F h =
-    let first = bounded_spin p.first.mount p.first.axis p.first.pivot in
-    let second = bounded_spin p.second.mount p.second.axis p.second.pivot in
+    let first = bounded_spin p.first in
+    let second = of_second p.second true bounded_spin in
     let all = (and-eq-true_iff (first && second) (all_within p.spindle longest)).0 h in
     let two = (and-eq-true_iff first second).0 all.0 in
     record {
-      first = spin_small p.first.mount p.first.axis p.first.pivot F.0.0 F.0.1 two.0;
-      second = spin_small p.second.mount p.second.axis p.second.pivot F.1.0 F.1.1 two.1;
+      first = spin_small p.first F.0 two.0;
+      second = second_small p.second F.1 two.1;
       spindle = vec_small p.spindle F.2 all.1;
     }
 
@@ -99,38 +122,38 @@ kept_is b j u angles h = go (inside b (turned_to j angles)) h
     go true h = (refl, ap (joints_or u) h)
     go false h = absurd (nothing_kept h)
 
-alone_is : (b : Bounds) (previous : Angles) (j u : Joints) → kept_at b j (unwind_angles b.two (angles_of j) previous) ≡ Some u → alone b previous j ≡ Ok u
+alone_is : (b : Bounds) (previous : Angles) (j u : Joints) → kept_at b j (unwind_angles (has_second b) (angles_of j) previous) ≡ Some u → alone b previous j ≡ Ok u
 unfolding alone unwound within_limits
-alone_is b previous j u h = let k = kept_is b j u (unwind_angles b.two (angles_of j) previous) h in rw (k.0, k.1)
+alone_is b previous j u h = let k = kept_is b j u (unwind_angles (has_second b) (angles_of j) previous) h in rw (k.0, k.1)
 
 -- the first of two is closer, and the second
-both_first : (b : Bounds) (previous : Angles) (j k u : Joints) → before (distance b.two previous (angles_of k)) (distance b.two previous (angles_of j)) ≡ false → before (distance b.two previous (angles_of j)) (distance b.two previous (angles_of k)) ≡ true
-    → kept_at b j (unwind_angles b.two (angles_of j) previous) ≡ Some u → both b previous j k ≡ Ok u
+both_first : (b : Bounds) (previous : Angles) (j k u : Joints) → before (distance (has_second b) previous (angles_of k)) (distance (has_second b) previous (angles_of j)) ≡ false → before (distance (has_second b) previous (angles_of j)) (distance (has_second b) previous (angles_of k)) ≡ true
+    → kept_at b j (unwind_angles (has_second b) (angles_of j) previous) ≡ Some u → both b previous j k ≡ Ok u
 unfolding both of_ranked ranked ranks_before unwound closest_or_other
-both_first b previous j k u f n h = let i = kept_is b j u (unwind_angles b.two (angles_of j) previous) h in rw (f, n, i.0, i.1)
+both_first b previous j k u f n h = let i = kept_is b j u (unwind_angles (has_second b) (angles_of j) previous) h in rw (f, n, i.0, i.1)
 
-both_second : (b : Bounds) (previous : Angles) (j k u : Joints) → before (distance b.two previous (angles_of k)) (distance b.two previous (angles_of j)) ≡ true
-    → kept_at b k (unwind_angles b.two (angles_of k) previous) ≡ Some u → both b previous j k ≡ Ok u
+both_second : (b : Bounds) (previous : Angles) (j k u : Joints) → before (distance (has_second b) previous (angles_of k)) (distance (has_second b) previous (angles_of j)) ≡ true
+    → kept_at b k (unwind_angles (has_second b) (angles_of k) previous) ≡ Some u → both b previous j k ≡ Ok u
 unfolding both of_ranked ranked ranks_before unwound closest_or_other
-both_second b previous j k u f h = let i = kept_is b k u (unwind_angles b.two (angles_of k) previous) h in rw (f, i.0, i.1)
+both_second b previous j k u f h = let i = kept_is b k u (unwind_angles (has_second b) (angles_of k) previous) h in rw (f, i.0, i.1)
 
 -- ---- of any two candidates of these angles
 module _ (b : Bounds) (previous one two : Angles) (u : Joints) where
-  first_enough : (c d : Option Joints) → Of one c → Of two d → before (distance b.two previous two) (distance b.two previous one) ≡ false → before (distance b.two previous one) (distance b.two previous two) ≡ true
-      → kept_of b (unwind_angles b.two one previous) c ≡ Some u → of_candidates b previous c d ≡ Ok u
+  first_enough : (c d : Option Joints) → Of one c → Of two d → before (distance (has_second b) previous two) (distance (has_second b) previous one) ≡ false → before (distance (has_second b) previous one) (distance (has_second b) previous two) ≡ true
+      → kept_of b (unwind_angles (has_second b) one previous) c ≡ Some u → of_candidates b previous c d ≡ Ok u
   first_enough (Some j) (Some k) o q f n h =
-      both_first b previous j k u (ap (λ (a : Angles). before (distance b.two previous a) (distance b.two previous (angles_of j))) q ∙ ap (λ (a : Angles). before (distance b.two previous two) (distance b.two previous a)) o ∙ f)
-      (ap (λ (a : Angles). before (distance b.two previous a) (distance b.two previous (angles_of k))) o ∙ ap (λ (a : Angles). before (distance b.two previous one) (distance b.two previous a)) q ∙ n)
-      (ap (λ (a : Angles). kept_at b j (unwind_angles b.two a previous)) o ∙ h)
-  first_enough (Some j) None o q f n h = alone_is b previous j u (ap (λ (a : Angles). kept_at b j (unwind_angles b.two a previous)) o ∙ h)
+      both_first b previous j k u (ap (λ (a : Angles). before (distance (has_second b) previous a) (distance (has_second b) previous (angles_of j))) q ∙ ap (λ (a : Angles). before (distance (has_second b) previous two) (distance (has_second b) previous a)) o ∙ f)
+      (ap (λ (a : Angles). before (distance (has_second b) previous a) (distance (has_second b) previous (angles_of k))) o ∙ ap (λ (a : Angles). before (distance (has_second b) previous one) (distance (has_second b) previous a)) q ∙ n)
+      (ap (λ (a : Angles). kept_at b j (unwind_angles (has_second b) a previous)) o ∙ h)
+  first_enough (Some j) None o q f n h = alone_is b previous j u (ap (λ (a : Angles). kept_at b j (unwind_angles (has_second b) a previous)) o ∙ h)
   first_enough None d o q f n h = absurd (nothing_kept h)
 
-  second_enough : (c d : Option Joints) → Of one c → Of two d → before (distance b.two previous two) (distance b.two previous one) ≡ true
-      → kept_of b (unwind_angles b.two two previous) d ≡ Some u → of_candidates b previous c d ≡ Ok u
+  second_enough : (c d : Option Joints) → Of one c → Of two d → before (distance (has_second b) previous two) (distance (has_second b) previous one) ≡ true
+      → kept_of b (unwind_angles (has_second b) two previous) d ≡ Some u → of_candidates b previous c d ≡ Ok u
   second_enough (Some j) (Some k) o q f h =
-      both_second b previous j k u (ap (λ (a : Angles). before (distance b.two previous a) (distance b.two previous (angles_of j))) q ∙ ap (λ (a : Angles). before (distance b.two previous two) (distance b.two previous a)) o ∙ f)
-      (ap (λ (a : Angles). kept_at b k (unwind_angles b.two a previous)) q ∙ h)
-  second_enough None (Some k) o q f h = alone_is b previous k u (ap (λ (a : Angles). kept_at b k (unwind_angles b.two a previous)) q ∙ h)
+      both_second b previous j k u (ap (λ (a : Angles). before (distance (has_second b) previous a) (distance (has_second b) previous (angles_of j))) q ∙ ap (λ (a : Angles). before (distance (has_second b) previous two) (distance (has_second b) previous a)) o ∙ f)
+      (ap (λ (a : Angles). kept_at b k (unwind_angles (has_second b) a previous)) q ∙ h)
+  second_enough None (Some k) o q f h = alone_is b previous k u (ap (λ (a : Angles). kept_at b k (unwind_angles (has_second b) a previous)) q ∙ h)
   second_enough (Some j) None o q f h = absurd (nothing_kept h)
   second_enough None None o q f h = absurd (nothing_kept h)
 
@@ -142,19 +165,19 @@ either false c d e h = inr (refl, h)
 module _ (s : Setup) (target tip : Vec3) (previous one two : Angles) (u : Joints) where
   closer_enough : closer s target tip previous one two ≡ Some u → of_candidates s.bounds previous (reached_by s.chain target tip one) (reached_by s.chain target tip two) ≡ Ok u
   unfolding closer kept
-  closer_enough h = go (either (before (distance s.bounds.two previous two) (distance s.bounds.two previous one)) _ _ _ h)
+  closer_enough h = go (either (before (distance (has_second s.bounds) previous two) (distance (has_second s.bounds) previous one)) _ _ _ h)
     where
       go :
-          ((before (distance s.bounds.two previous two) (distance s.bounds.two previous one) ≡ true) × (kept s target tip two (unwind_angles s.bounds.two two previous) ≡ Some u))
-          ⊎ ((before (distance s.bounds.two previous two) (distance s.bounds.two previous one) ≡ false)
-          × (cond (before (distance s.bounds.two previous one) (distance s.bounds.two previous two)) (kept s target tip one (unwind_angles s.bounds.two one previous)) None ≡ Some u))
+          ((before (distance (has_second s.bounds) previous two) (distance (has_second s.bounds) previous one) ≡ true) × (kept s target tip two (unwind_angles (has_second s.bounds) two previous) ≡ Some u))
+          ⊎ ((before (distance (has_second s.bounds) previous two) (distance (has_second s.bounds) previous one) ≡ false)
+          × (cond (before (distance (has_second s.bounds) previous one) (distance (has_second s.bounds) previous two)) (kept s target tip one (unwind_angles (has_second s.bounds) one previous)) None ≡ Some u))
           → of_candidates s.bounds previous (reached_by s.chain target tip one) (reached_by s.chain target tip two) ≡ Ok u
       go (inl (f, k)) = second_enough s.bounds previous one two u (reached_by s.chain target tip one) (reached_by s.chain target tip two) (reached_of s.chain target tip one) (reached_of s.chain target tip two) f k
-      go (inr (f, k)) = on (either (before (distance s.bounds.two previous one) (distance s.bounds.two previous two)) _ _ _ k)
+      go (inr (f, k)) = on (either (before (distance (has_second s.bounds) previous one) (distance (has_second s.bounds) previous two)) _ _ _ k)
         where
           on :
-              ((before (distance s.bounds.two previous one) (distance s.bounds.two previous two) ≡ true) × (kept s target tip one (unwind_angles s.bounds.two one previous) ≡ Some u))
-              ⊎ ((before (distance s.bounds.two previous one) (distance s.bounds.two previous two) ≡ false) × (None ≡ Some u))
+              ((before (distance (has_second s.bounds) previous one) (distance (has_second s.bounds) previous two) ≡ true) × (kept s target tip one (unwind_angles (has_second s.bounds) one previous) ≡ Some u))
+              ⊎ ((before (distance (has_second s.bounds) previous one) (distance (has_second s.bounds) previous two) ≡ false) × (None ≡ Some u))
               → of_candidates s.bounds previous (reached_by s.chain target tip one) (reached_by s.chain target tip two) ≡ Ok u
           on (inl (n, k)) = first_enough s.bounds previous one two u (reached_by s.chain target tip one) (reached_by s.chain target tip two) (reached_of s.chain target tip one) (reached_of s.chain target tip two) f n k
           on (inr (n, k)) = absurd (nothing_kept k)

@@ -18,7 +18,6 @@ use Rattle.geometry.specs.Vector.{cross, norm}
 use Rattle.geometry.specs.Direction.{all_finite, unit_direction, along}
 use Rattle.chain.specs.Checked.{Checked}
 use Rattle.chain.specs.declared.Joints.{Joints}
-use Rattle.chain.specs.declared.Mount.TheVariants.{Absent}
 use Rattle.chain.specs.declared.Kinematics.{Kinematics}
 use Rattle.chain.specs.declared.Prepared.{Prepared}
 use Rattle.chain.specs.declared.ToolPose.{ToolPose}
@@ -27,10 +26,11 @@ use Rattle.chain.specs.Prepared.{prepared, second_spin}
 use Rattle.inverse.specs.declared.SolvedAngle.{SolvedAngle}
 use Rattle.inverse.specs.Subproblem.{shortest, sp1}
 use Rattle.inverse.specs.AxisMap.{axis_map_of}
-use Rattle.inverse.specs.Orientation.{orientation_angles, one_raw, one_joint_angles, one_angle, sign_of}
+use Rattle.inverse.specs.Orientation.{orientation_angles, one_joint_angles, one_angle, sign_of}
+use Rattle.inverse.specs.UpToTwo.{first_only}
 use Rattle.inverse.specs.Inverse.{pose_at, misses, joints_at}
 use Rattle.inverse.specs.declared.Angles.{Angles}
-use Rattle.path.specs.Unwinding.{unwind_angles, inside, different_branch}
+use Rattle.path.specs.Unwinding.{unwind_angles, inside, different_branch, has_second}
 use Rattle.path.specs.Singular.{singular_frame, in_singular_cone, nearest_pole}
 use Rattle.path.specs.Locking.{refused, within_limits, finite_position, placed_at, locked_joints, strays, limited, unless_straying, cone_solution}
 use Rattle.path.specs.Exact.{reached_by, candidate, angles_of, second_candidate, position_finite, unwound, ranked, ranks_before, closest_or_other, of_ranked, alone, both, of_candidates, of_positions, of_raw, exact_pose}
@@ -38,7 +38,7 @@ use Rattle.path.specs.Posing.{bounds_of, set_up, leaves_limits, succeeds, locked
 use Rattle.path.specs.Solving.{PathAnswer, Along, AtPose, Kept, then_on, with_pose, solve_poses, start_angles, poses_in, solve_check, unless_kept, solve_checked, solve_path}
 use Rattle.path.specs.Promise.{Served, OnPath}
 use Rattle.path.specs.declared.Bounds.{Bounds}
-use Rattle.path.specs.declared.Ranked.{Ranked}
+use Rattle.inverse.specs.declared.Ranked.{Ranked}
 use Rattle.path.specs.declared.Setup.{Setup}
 use Rattle.path.specs.declared.SingularFrame.{SingularFrame}
 
@@ -68,7 +68,7 @@ unfolding closest_or_other
 closest_inside b c o p q =
     cond_holds (Inside b) (inside b c) (Ok c) _ (λ e. (p, e))
     (λ e. cond_holds (Inside b) (inside b o) _ (within_limits b c)
-    (λ f. cond_holds (Inside b) (different_branch b.two o c) _ (Ok o) (λ g. tt) (λ g. (q, f)))
+    (λ f. cond_holds (Inside b) (different_branch (has_second b) o c) _ (Ok o) (λ g. tt) (λ g. (q, f)))
     (λ f. within_limits_hold b c p))
 
 ranked_inside : (b : Bounds) (r q : Ranked) → Placed r.joints → Placed q.joints → Holds (Inside b) (of_ranked b r q)
@@ -78,11 +78,11 @@ ranked_inside b r q g h =
 
 alone_inside : (b : Bounds) (previous : Angles) (j : Joints) → Placed j → Holds (Inside b) (alone b previous j)
 unfolding alone unwound
-alone_inside b previous j h = within_limits_hold b (unwound b.two previous j) h
+alone_inside b previous j h = within_limits_hold b (unwound (has_second b) previous j) h
 
 both_inside : (b : Bounds) (previous : Angles) (j k : Joints) → Placed j → Placed k → Holds (Inside b) (both b previous j k)
 unfolding both ranked unwound
-both_inside b previous j k g h = ranked_inside b (ranked b.two previous j) (ranked b.two previous k) g h
+both_inside b previous j k g h = ranked_inside b (ranked (has_second b) previous j) (ranked (has_second b) previous k) g h
 
 candidates_inside : (b : Bounds) (previous : Angles) (c d : Option Joints) → position_finite c ≡ true → position_finite d ≡ true → Holds (Inside b) (of_candidates b previous c d)
 candidates_inside b previous (Some j) (Some k) g h = both_inside b previous j k g h
@@ -216,10 +216,10 @@ limits_unused : (b : Bounds) (j : Joints) → Unused j → Holds Unused (within_
 unfolding within_limits
 limits_unused b j h = cond_holds Unused (inside b j) (Ok j) _ (λ e. h) (λ e. tt)
 
-candidates_unused : (b : Bounds) (previous : Angles) (c : Option Joints) → b.two ≡ false → CandidateUnused c → Holds Unused (of_positions b previous c None)
+candidates_unused : (b : Bounds) (previous : Angles) (c : Option Joints) → has_second b ≡ false → CandidateUnused c → Holds Unused (of_positions b previous c None)
 unfolding of_positions alone unwound unwind_angles
 candidates_unused b previous (Some j) e h =
-    cond_holds Unused (not (all_finite j.xyz)) _ _ (λ f. tt) (λ f. limits_unused b (unwound b.two previous j) (rw e h))
+    cond_holds Unused (not (all_finite j.xyz)) _ _ (λ f. tt) (λ f. limits_unused b (unwound (has_second b) previous j) (rw e h))
 candidates_unused b previous None e h = tt
 
 second_none : (p : Prepared) (target tip : Vec3) (c : Option Joints) → second_candidate p target tip c None ≡ None
@@ -228,7 +228,11 @@ second_none p target tip (Some j) = refl
 second_none p target tip None = refl
 
 module _ (k : Kinematics) (cone : Float) (one : eqb k.count 2 ≡ false) where
-  absent : (prepared k).second.mount ≡ Absent
+  no_second : has_second (bounds_of k) ≡ false
+  unfolding bounds_of
+  no_second = rw one
+
+  absent : (prepared k).second ≡ None
   unfolding prepared second_spin
   absent = rw one
 
@@ -236,19 +240,19 @@ module _ (k : Kinematics) (cone : Float) (one : eqb k.count 2 ≡ false) where
   unfolding singular_frame
   regular = rw absent
 
-  raw_one : (target : Vec3) (hint : Angles) → orientation_angles (prepared k) target hint ≡ one_raw (one_joint_angles (prepared k).first (prepared k).spindle target hint)
+  raw_one : (target : Vec3) (hint : Angles) → orientation_angles (prepared k) target hint ≡ first_only (one_joint_angles (prepared k).first (prepared k).spindle target hint)
   unfolding orientation_angles
   raw_one target hint = rw absent
 
   raw_unused : (target : Vec3) (hint : Angles) → RawUnused (one_joint_angles (prepared k).first (prepared k).spindle target hint)
   unfolding one_joint_angles
-  raw_unused target hint = angle_unused (sp1 (prepared k).first.axis (prepared k).spindle target) (sign_of (prepared k).first.mount) hint
+  raw_unused target hint = angle_unused (sp1 (prepared k).first.axis (prepared k).spindle target) (sign_of (prepared k).first.carrier) hint
 
   exact_unused : (target tip : Vec3) (previous : Angles) → Holds Unused (exact_pose (set_up k cone) target tip previous)
   unfolding exact_pose of_raw set_up bounds_of
   exact_unused target tip previous =
       rw (raw_one, second_none)
-      (candidates_unused (bounds_of k) previous (candidate (prepared k) target tip (one_joint_angles (prepared k).first (prepared k).spindle target previous)) one
+      (candidates_unused (bounds_of k) previous (candidate (prepared k) target tip (one_joint_angles (prepared k).first (prepared k).spindle target previous)) no_second
       (candidate_unused (prepared k) target tip (one_joint_angles (prepared k).first (prepared k).spindle target previous) (raw_unused target previous)))
 
   one_unused : (target tip : Vec3) (previous : Angles) → Holds Unused (solve_one (set_up k cone) target tip previous)

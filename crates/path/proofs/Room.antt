@@ -11,17 +11,14 @@ use Rattle.std.specs.Prelude.{None, Ok, Option, Some}
 use Rattle.refusal.specs.declared.Cause.{Cause}
 use Rattle.float.specs.Helpers.{nought}
 use Rattle.float.proofs.UpTo.{up_to_more, nought_up_to}
-use Rattle.geometry.specs.declared.Vec3.{Vec3}
 use Rattle.geometry.proofs.UnitSize.{UnitSized}
 use Rattle.chain.specs.declared.Joints.{Joints}
-use Rattle.chain.specs.declared.Carrier.{Carrier}
 use Rattle.chain.specs.declared.RotaryJoint.{RotaryJoint}
 use Rattle.chain.specs.declared.Kinematics.{Kinematics}
-use Rattle.chain.specs.declared.Mount.{Mount}
-use Rattle.chain.specs.declared.Mount.TheVariants.{Table, Head, Absent}
 use Rattle.chain.specs.declared.Spin.{Spin}
 use Rattle.chain.specs.Check.{demand, chain_check, within, all_within, rotary_within, chain_within, joints_within, longest, farthest, most_turned}
-use Rattle.chain.specs.Prepared.{mount_of, spin_of, second_spin, prepared}
+use Rattle.chain.specs.Forward.{of_second}
+use Rattle.chain.specs.Prepared.{spin_of, second_spin, prepared}
 use Rattle.chain.proofs.NeverFallback.{within_up_to}
 use Rattle.chain.proofs.Passing.{then_passed, demand_passed, SixPassed, six_passed}
 use Rattle.chain.proofs.UnitAxes.{FitAxes, SecondUnit, UnitChain, chain_units}
@@ -54,40 +51,27 @@ start_up_to (Some j) f h =
     (within_up_to j.a0 f.0 b.1, within_up_to j.a1 f.1 a.1)
 
 -- ---- a unit axis and a pivot within 100,000
-both_within : (axis pivot : Vec3) → UnitSized axis → all_within pivot longest ≡ true → (all_within axis longest && all_within pivot longest) ≡ true
-both_within axis pivot A w = rw (vec_within axis A.small, w)
-
-first_bounded : (c : Carrier) (axis pivot : Vec3) → UnitSized axis → all_within pivot longest ≡ true → bounded_spin (mount_of c) axis pivot ≡ true
-first_bounded Carrier.Table axis pivot A w = both_within axis pivot A w
-first_bounded Carrier.Head axis pivot A w = both_within axis pivot A w
-
-spin_bounded : (m : Mount) (axis pivot : Vec3) → SecondUnit m axis → all_within pivot longest ≡ true → bounded_spin m axis pivot ≡ true
-spin_bounded Table axis pivot A w = both_within axis pivot A w
-spin_bounded Head axis pivot A w = both_within axis pivot A w
-spin_bounded Absent axis pivot A w = refl
+spin_bounded : (s : Spin) → UnitSized s.axis → all_within s.pivot longest ≡ true → bounded_spin s ≡ true
+spin_bounded s A w = rw (vec_within s.axis A.small, w)
 
 pivot_within : (j : RotaryJoint) → rotary_within j ≡ true → all_within j.pivot longest ≡ true
 unfolding rotary_within
 pivot_within j w = ((and-eq-true_iff (all_within j.pivot longest) (within j.rest most_turned)).0 w).0
 
 -- where there is no second rotary its pivot is not asked
-second_bounded : (k : Kinematics) → SecondUnit (second_spin k).mount (second_spin k).axis → cond (eqb k.count 2) (rotary_within k.second) true ≡ true → bounded_spin (second_spin k).mount (second_spin k).axis (second_spin k).pivot ≡ true
-unfolding second_spin spin_of
+second_bounded : (k : Kinematics) → SecondUnit (second_spin k) → cond (eqb k.count 2) (rotary_within k.second) true ≡ true → of_second (second_spin k) true bounded_spin ≡ true
+unfolding second_spin
 second_bounded k A w = go (eqb k.count 2) A w
   where
-    absent : Spin
-    absent = record { mount = Absent; axis = k.second.axis; pivot = k.second.pivot }
-
-    go : (two : Bool) → SecondUnit (cond two (spin_of k.second) absent).mount (cond two (spin_of k.second) absent).axis → cond two (rotary_within k.second) true ≡ true
-        → bounded_spin (cond two (spin_of k.second) absent).mount (cond two (spin_of k.second) absent).axis (cond two (spin_of k.second) absent).pivot ≡ true
-    go true A w = spin_bounded (spin_of k.second).mount (spin_of k.second).axis (spin_of k.second).pivot A (pivot_within k.second w)
+    go : (two : Bool) → SecondUnit (cond two (Some (spin_of k.second)) None) → cond two (rotary_within k.second) true ≡ true → of_second (cond two (Some (spin_of k.second)) None) true bounded_spin ≡ true
+    go true A w = spin_bounded (spin_of k.second) A (unfold spin_of in pivot_within k.second w)
     go false A w = refl
 
 units_bounded : (k : Kinematics) → UnitChain (prepared k) → chain_within k ≡ true → bounded (prepared k) ≡ true
 unfolding bounded prepared spin_of chain_within
 units_bounded k C w =
     let p = (and-eq-true_iff (rotary_within k.first) (cond (eqb k.count 2) (rotary_within k.second) true)).0 w in
-    rw (first_bounded k.first.carrier _ k.first.pivot C.first (pivot_within k.first p.0), second_bounded k C.second p.1, vec_within _ C.spindle.small)
+    rw (spin_bounded (spin_of k.first) C.first (pivot_within k.first p.0), second_bounded k C.second p.1, vec_within _ C.spindle.small)
 
 -- ---- what the list of checks says
 module _ (k : Kinematics) (start : Option Joints) (cone : Float) (numbers room : ℕ) (passed : solve_check k start cone numbers room ≡ Ok tt) where

@@ -33,14 +33,14 @@ use Rattle.inverse.specs.declared.Angles.{Angles}
 use Rattle.inverse.specs.declared.AxisMap.{AxisMap}
 use Rattle.inverse.specs.declared.SolvedAngle.TheVariants.{Fixed, Free}
 use Rattle.inverse.proofs.AngleBounds.{FixedIn, sp1_within, Signs, axis_signs, PairUpTo, RawUpTo, placed_up_to, hint_x_up_to, hint_y_up_to, raw_within, BothTurnable, both_turnable}
-use Rattle.path.specs.Unwinding.{unwind_angles, inside, different_branch}
+use Rattle.path.specs.Unwinding.{unwind_angles, inside, different_branch, has_second}
 use Rattle.path.specs.Singular.{in_singular_cone, nearest_pole}
 use Rattle.path.specs.Locking.{refused, within_limits, closest_on_circle, fixed_only, toward, fit, fit_second, fit_first, fitted, locks_x, locked_x, locked_y, locked_angles, finite_position, placed_at, locked_joints, strays, limited, unless_straying, cone_solution}
 use Rattle.path.specs.Exact.{reached_by, candidate, angles_of, repeats, second_candidate, position_finite, unwound, ranked, ranks_before, closest_or_other, of_ranked, alone, both, of_candidates, of_positions, of_raw, exact_pose}
 use Rattle.path.specs.Posing.{set_up, by_frame, solve_one, turned_within, pose_answer}
 use Rattle.path.specs.Solving.{poses_in, start_angles, solve_check}
 use Rattle.path.specs.declared.Bounds.{Bounds}
-use Rattle.path.specs.declared.Ranked.{Ranked}
+use Rattle.inverse.specs.declared.Ranked.{Ranked}
 use Rattle.path.specs.declared.Setup.{Setup}
 use Rattle.path.specs.declared.SingularFrame.{SingularFrame}
 use Rattle.path.proofs.UnwoundBounds.{unwound_within}
@@ -85,7 +85,7 @@ closest_turned : (b : Bounds) (c o : Joints) → Turned c → Turned o → Holds
 unfolding closest_or_other
 closest_turned b c o p q =
     chosen (Holds Turned) (inside b c) (Ok c) _ (λ e. p)
-    (λ e. chosen (Holds Turned) (inside b o) _ (within_limits b c) (λ e. chosen (Holds Turned) (different_branch b.two o c) _ (Ok o) (λ e. tt) (λ e. q)) (λ e. limits_turned b c p))
+    (λ e. chosen (Holds Turned) (inside b o) _ (within_limits b c) (λ e. chosen (Holds Turned) (different_branch (has_second b) o c) _ (Ok o) (λ e. tt) (λ e. q)) (λ e. limits_turned b c p))
 
 ranked_turned : (b : Bounds) (r q : Ranked) → Turned r.joints → Turned q.joints → Holds Turned (of_ranked b r q)
 unfolding of_ranked
@@ -98,11 +98,11 @@ module _ (previous : Angles) (P : PairUpTo 36000 previous) where
 
   alone_turned : (b : Bounds) (j : Joints) → PairUpTo 36180 (angles_of j) → Holds Turned (alone b previous j)
   unfolding alone
-  alone_turned b j A = limits_turned b (unwound b.two previous j) (unwound_turned b.two j A)
+  alone_turned b j A = limits_turned b (unwound (has_second b) previous j) (unwound_turned (has_second b) j A)
 
   both_turned : (b : Bounds) (j k : Joints) → PairUpTo 36180 (angles_of j) → PairUpTo 36180 (angles_of k) → Holds Turned (both b previous j k)
   unfolding both ranked
-  both_turned b j k A B = ranked_turned b (ranked b.two previous j) (ranked b.two previous k) (unwound_turned b.two j A) (unwound_turned b.two k B)
+  both_turned b j k A B = ranked_turned b (ranked (has_second b) previous j) (ranked (has_second b) previous k) (unwound_turned (has_second b) j A) (unwound_turned (has_second b) k B)
 
   candidates_turned : (b : Bounds) (c d : Option Joints) → CandidateUpTo c → CandidateUpTo d → Holds Turned (of_candidates b previous c d)
   candidates_turned b (Some j) (Some k) A B = both_turned b j k A B
@@ -183,9 +183,9 @@ straying_turned s target pole (Ok j) g h = chosen (Holds Turned) (strays s targe
 straying_turned s target pole (Err r) g h = tt
 
 module _ (s : Setup) (previous : Angles) (P : PairUpTo 36000 previous) where
-  unwound_locked : (onSecond : Bool) (target : Vec3) → PairUpTo 37000 (unwind_angles s.bounds.two (locked_angles (axis_map_of s.chain) onSecond s.chain.spindle target previous) previous)
+  unwound_locked : (onSecond : Bool) (target : Vec3) → PairUpTo 37000 (unwind_angles (has_second s.bounds) (locked_angles (axis_map_of s.chain) onSecond s.chain.spindle target previous) previous)
   unwound_locked onSecond target =
-      unwound_pair s.bounds.two _ previous (pair_more 36000 36180 _ (lit≤ tt) (locked_up_to (axis_map_of s.chain) (axis_signs s.chain) s.chain.spindle target previous P onSecond)) P
+      unwound_pair (has_second s.bounds) _ previous (pair_more 36000 36180 _ (lit≤ tt) (locked_up_to (axis_map_of s.chain) (axis_signs s.chain) s.chain.spindle target previous P onSecond)) P
 
   locked_turned : (onSecond : Bool) (target tip : Vec3) → Holds Turned (locked_joints s onSecond target tip previous)
   unfolding locked_joints
@@ -229,7 +229,7 @@ pub record PoseTurns (s : Setup) (previous : Angles) : Type 0 where
   pub lock_x : Turnable (times (axis_map_of s.chain).x_sign (hint_x (axis_map_of s.chain) previous))
   pub lock_y : Turnable (times (axis_map_of s.chain).y_sign (hint_y (axis_map_of s.chain) previous))
   -- the angles of `placed_at`, toward the target and toward a pole
-  pub locked : (onSecond : Bool) (target : Vec3) → BothTurnable (unwind_angles s.bounds.two (locked_angles (axis_map_of s.chain) onSecond s.chain.spindle target previous) previous)
+  pub locked : (onSecond : Bool) (target : Vec3) → BothTurnable (unwind_angles (has_second s.bounds) (locked_angles (axis_map_of s.chain) onSecond s.chain.spindle target previous) previous)
   -- the joints that `strays` takes the axis of
   pub tested : (onSecond : Bool) (target tip : Vec3) → Holds (λ j. BothTurnable (angles_of j)) (locked_joints s onSecond target tip previous)
 

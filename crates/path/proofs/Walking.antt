@@ -4,7 +4,6 @@ use native.Mathlib.Numerals.{add-one, towards_suc}
 use native.Mathlib.Nat.{sub-zero}
 use native.Mathlib.Omega.{arith}
 use mathlib.Core.Path.{◌≡◌, refl, sym, ap, ◌∙◌}
-use mathlib.Core.Bool.{true}
 use mathlib.Core.List.{List, [], ◌∷◌, ◌++◌, append-nil}
 use lib.ListN.{length, replicate, take, drop, length-set, length-append}
 use lib.Seq.{sets, sets-eq, take_at, length-take-le, drop-drop}
@@ -18,7 +17,6 @@ use Rattle.refusal.specs.declared.Refusal.{Refusal}
 use Rattle.chain.specs.Checked.{Checked}
 use Rattle.chain.specs.declared.Joints.{Joints}
 use Rattle.inverse.specs.declared.Angles.{Angles}
-use Rattle.path.specs.Closest.{bounded}
 use Rattle.path.specs.Exact.{angles_of}
 use Rattle.path.specs.Posing.{pose_answer}
 use Rattle.path.specs.Solving.{PathAnswer, Along, AtPose, then_on, pose_from, pose_in, poses_in, joint_numbers, joints_over, solve_poses, checked_in, path_over}
@@ -65,7 +63,6 @@ flat_one l j = rw (flat_append joint_numbers l (j ∷ []), append-nil)
 
 -- ---- the loop
 pub record Walking (s : Setup) (start : Angles) (l : List Float) (n : ℕ) (out₀ out : List Float) (previous : Angles) (i : ℕ) : Type 0 where
-  pub chain : bounded s.chain ≡ true
   pub done : List Joints
   pub within : i ≤ n
   pub count : n ≡ length l / 6
@@ -74,9 +71,9 @@ pub record Walking (s : Setup) (start : Angles) (l : List Float) (n : ℕ) (out�
   pub front : take (i * 5) out ≡ flat joint_numbers done
   pub whole : solve_poses s start 0 (poses_in l) ≡ before done (solve_poses s previous i (rows 6 pose_from (n - i) (drop (i * 6) l)))
 
-pub walking_start : (s : Setup) (start : Angles) (l : List Float) (out : List Float) → length l / 6 * 5 ≤ length out → bounded s.chain ≡ true → Walking s start l (length l / 6) out out start 0
+pub walking_start : (s : Setup) (start : Angles) (l : List Float) (out : List Float) → length l / 6 * 5 ≤ length out → Walking s start l (length l / 6) out out start 0
 unfolding poses_in flat before
-walking_start s start l out h b = record { chain = b; done = []; within = omega arith; count = refl; room = h; long = refl; front = refl; whole = rw sub-zero }
+walking_start s start l out h = record { done = []; within = omega arith; count = refl; room = h; long = refl; front = refl; whole = rw sub-zero }
 
 next_pose : (l : List Float) (n i : ℕ) → i < n → rows 6 pose_from (n - i) (drop (i * 6) l) ≡ pose_in l (i * 6) ∷ rows 6 pose_from (n - (i + 1)) (drop ((i + 1) * 6) l)
 unfolding rows pose_in
@@ -93,7 +90,6 @@ module _ {s : Setup} {start : Angles} {l : List Float} {n : ℕ} {out₀ out : L
       let h : i * 5 + 5 ≤ length out = omega arith in
       let by5 : (i + 1) * 5 ≡ i * 5 + 5 = omega arith in
       record {
-        chain = g.chain;
         done = g.done ++ (j ∷ []);
         within = omega arith;
         count = g.count;

@@ -9,28 +9,24 @@ use Rattle.root.specs.Root.{root}
 use Rattle.float.specs.TotalOrder.{before}
 use Rattle.geometry.specs.declared.Vec3.{Vec3}
 use Rattle.chain.specs.declared.Joints.{Joints}
-use Rattle.chain.specs.declared.Mount.{Mount}
-use Rattle.chain.specs.declared.Mount.TheVariants.{Table, Head, Absent}
+use Rattle.chain.specs.declared.Spin.{Spin}
 use Rattle.chain.specs.declared.Prepared.{Prepared}
 use Rattle.chain.specs.Check.{all_within, longest}
+use Rattle.chain.specs.Forward.{of_second}
 use Rattle.inverse.specs.Wraps.{same_angles}
 use Rattle.inverse.specs.declared.Angles.{Angles}
-use Rattle.path.specs.Unwinding.{unwind_angles, rotary_distance, inside}
+use Rattle.path.specs.Unwinding.{unwind_angles, rotary_distance, inside, has_second}
 use Rattle.path.specs.Exact.{reached_by}
 use Rattle.path.specs.declared.Bounds.{Bounds}
 use Rattle.path.specs.declared.Setup.{Setup}
 
--- what the checks before the first pose leave: no number of the spindle, and none of a rotary that moves, is past
+-- what the checks before the first pose leave: no number of the spindle, and none of a rotary, is past
 -- 100,000. No program computes this
-abbrev pub bounded_spin : Mount → Vec3 → Vec3 → Bool
-bounded_spin Table axis pivot = all_within axis longest && all_within pivot longest
-bounded_spin Head axis pivot = all_within axis longest && all_within pivot longest
-bounded_spin Absent axis pivot = true
+abbrev pub bounded_spin : Spin → Bool
+bounded_spin s = all_within s.axis longest && all_within s.pivot longest
 
 unfoldable pub bounded : Prepared → Bool
-bounded p =
-    bounded_spin p.first.mount p.first.axis p.first.pivot && bounded_spin p.second.mount p.second.axis p.second.pivot
-    && all_within p.spindle longest
+bounded p = bounded_spin p.first && of_second p.second true bounded_spin && all_within p.spindle longest
 
 -- the joints at other angles
 abbrev pub turned_to : Joints → Angles → Joints
@@ -66,8 +62,8 @@ distance two previous angles = rotary_distance two (unwind_angles two angles pre
 
 unfoldable pub closer : Setup → Vec3 → Vec3 → Angles → Angles → Angles → Option Joints
 closer s target tip previous one two =
-    cond (before (distance s.bounds.two previous two) (distance s.bounds.two previous one)) (kept s target tip two (unwind_angles s.bounds.two two previous))
-    (cond (before (distance s.bounds.two previous one) (distance s.bounds.two previous two)) (kept s target tip one (unwind_angles s.bounds.two one previous))
+    cond (before (distance (has_second s.bounds) previous two) (distance (has_second s.bounds) previous one)) (kept s target tip two (unwind_angles (has_second s.bounds) two previous))
+    (cond (before (distance (has_second s.bounds) previous one) (distance (has_second s.bounds) previous two)) (kept s target tip one (unwind_angles (has_second s.bounds) one previous))
     None)
 
 abbrev pub closest_alone : Setup → Vec3 → Vec3 → Angles → Option Angles → Option Angles → Option Joints

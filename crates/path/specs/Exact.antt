@@ -14,10 +14,10 @@ use Rattle.inverse.specs.Wraps.{same_angles}
 use Rattle.inverse.specs.Solutions.{precedes}
 use Rattle.inverse.specs.Inverse.{pose_at, misses, joints_at}
 use Rattle.inverse.specs.declared.Angles.{Angles}
-use Rattle.path.specs.Unwinding.{unwind_angles, rotary_distance, different_branch, inside}
+use Rattle.path.specs.Unwinding.{unwind_angles, rotary_distance, different_branch, inside, has_second}
 use Rattle.path.specs.Locking.{refused, within_limits}
 use Rattle.path.specs.declared.Bounds.{Bounds}
-use Rattle.path.specs.declared.Ranked.{Ranked}
+use Rattle.inverse.specs.declared.Ranked.{Ranked}
 use Rattle.path.specs.declared.Setup.{Setup}
 
 -- ---- the candidates
@@ -68,7 +68,7 @@ ranks_before r q =
 unfoldable pub closest_or_other : Bounds → Joints → Joints → Result Joints Refusal
 closest_or_other b closest other =
     cond (inside b closest) (Ok closest)
-    (cond (inside b other) (cond (different_branch b.two other closest) (refused Cause.BranchFlips) (Ok other))
+    (cond (inside b other) (cond (different_branch (has_second b) other closest) (refused Cause.BranchFlips) (Ok other))
     (within_limits b closest))
 
 -- of two that tie the first
@@ -77,10 +77,10 @@ of_ranked b first second =
     cond (ranks_before second first) (closest_or_other b second.joints first.joints) (closest_or_other b first.joints second.joints)
 
 unfoldable pub alone : Bounds → Angles → Joints → Result Joints Refusal
-alone b previous j = within_limits b (unwound b.two previous j)
+alone b previous j = within_limits b (unwound (has_second b) previous j)
 
 unfoldable pub both : Bounds → Angles → Joints → Joints → Result Joints Refusal
-both b previous j k = of_ranked b (ranked b.two previous j) (ranked b.two previous k)
+both b previous j k = of_ranked b (ranked (has_second b) previous j) (ranked (has_second b) previous k)
 
 abbrev pub of_candidates : Bounds → Angles → Option Joints → Option Joints → Result Joints Refusal
 of_candidates b previous (Some j) (Some k) = both b previous j k

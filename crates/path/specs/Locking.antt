@@ -21,7 +21,7 @@ use Rattle.inverse.specs.declared.Angles.{Angles}
 use Rattle.inverse.specs.declared.AxisMap.{AxisMap}
 use Rattle.inverse.specs.declared.SolvedAngle.TheVariants.{Fixed, Free}
 use Rattle.path.specs.Singular.{millionth, nearest_pole}
-use Rattle.path.specs.Unwinding.{unwind_angles, inside, axis_outside}
+use Rattle.path.specs.Unwinding.{unwind_angles, inside, axis_outside, has_second}
 use Rattle.path.specs.declared.Bounds.{Bounds}
 use Rattle.path.specs.declared.Setup.{Setup}
 use Rattle.path.specs.declared.SingularFrame.{SingularFrame}
@@ -101,7 +101,7 @@ unfoldable pub locked_joints : Setup → Bool → Vec3 → Vec3 → Angles → R
 locked_joints s onSecond target tip previous =
     cond (Ieee.lt (norm (cross (axis_map_of s.chain).wa (axis_map_of s.chain).wb)) shortest) (refused Cause.PoseUnreachable)
     (placed_at s.chain tip
-    (unwind_angles s.bounds.two (locked_angles (axis_map_of s.chain) onSecond s.chain.spindle target previous) previous))
+    (unwind_angles (has_second s.bounds) (locked_angles (axis_map_of s.chain) onSecond s.chain.spindle target previous) previous))
 
 -- ---- the cone's solution: where the axis strays, once more toward the nearest pole, and not tested again
 unfoldable pub strays : Setup → Vec3 → Joints → Bool

@@ -6,6 +6,7 @@ use Rattle.geometry.specs.declared.Vec3.{Vec3}
 use Rattle.geometry.specs.Direction.{all_finite, unit_direction, along}
 use Rattle.chain.specs.declared.Joints.{Joints}
 use Rattle.chain.specs.declared.Kinematics.{Kinematics}
+use Rattle.chain.specs.declared.RotaryJoint.{RotaryJoint}
 use Rattle.chain.specs.declared.ToolPose.{ToolPose}
 use Rattle.chain.specs.Check.{within, all_within, longest, most_turned}
 use Rattle.chain.specs.Prepared.{prepared}
@@ -14,17 +15,18 @@ use Rattle.path.specs.declared.SingularFrame.{SingularFrame}
 use Rattle.path.specs.Singular.{singular_frame, in_singular_cone}
 use Rattle.path.specs.Locking.{refused, cone_solution}
 use Rattle.path.specs.Exact.{exact_pose}
+use Rattle.path.specs.declared.Bound.{Bound}
 use Rattle.path.specs.declared.Bounds.{Bounds}
 use Rattle.path.specs.declared.Setup.{Setup}
 
 -- ---- what is the same for every pose
+abbrev pub bound_of : RotaryJoint → Bound
+bound_of joint = record { limits = joint.limits; letter = joint.letter }
+
 unfoldable pub bounds_of : Kinematics → Bounds
 bounds_of k = record {
-  two = eqb k.count 2;
-  outer = k.first.limits;
-  inner = k.second.limits;
-  first_letter = k.first.letter;
-  second_letter = k.second.letter;
+  first = bound_of k.first;
+  second = cond (eqb k.count 2) (Some (bound_of k.second)) None;
 }
 
 unfoldable pub set_up : Kinematics → Float → Setup

@@ -9,8 +9,7 @@ use Rattle.trig.specs.Arccosine.{arccosine_of}
 use Rattle.geometry.specs.declared.Vec3.{Vec3}
 use Rattle.geometry.specs.Vector.{dot, scale, plus, minus, times}
 use Rattle.geometry.specs.Slerp.{with, half_turn_degrees}
-use Rattle.chain.specs.declared.Mount.{Mount}
-use Rattle.chain.specs.declared.Mount.TheVariants.{Table, Head, Absent}
+use Rattle.chain.specs.declared.Spin.{Spin}
 use Rattle.chain.specs.declared.Prepared.{Prepared}
 use Rattle.inverse.specs.AxisMap.{minus_one}
 use Rattle.path.specs.declared.SingularFrame.{SingularFrame}
@@ -40,13 +39,12 @@ frame_of_two first second spindle =
     (frame_on true second spindle (size_of (dot second spindle)) (size_of (dot first spindle)))
     (frame_on false first spindle (size_of (dot first spindle)) (size_of (dot second spindle)))
 
-abbrev pub of_two : Mount → Option SingularFrame → Option SingularFrame
-of_two Absent frame = None
-of_two Table frame = frame
-of_two Head frame = frame
+abbrev pub of_two : Option Spin → (Spin → Option SingularFrame) → Option SingularFrame
+of_two None frame = None
+of_two (Some second) frame = frame second
 
 unfoldable pub singular_frame : Prepared → Option SingularFrame
-singular_frame p = of_two p.second.mount (frame_of_two p.first.axis p.second.axis p.spindle)
+singular_frame p = of_two p.second (λ second. frame_of_two p.first.axis second.axis p.spindle)
 
 -- ---- the cone
 unfoldable pub pole_clearance_deg : Vec3 → Vec3 → Float

@@ -1,5 +1,5 @@
 -- Angles beside the angles before them.
-use Rattle.std.specs.Prelude.{Bool, true, not, cond, ◌&&◌, ◌||◌, ℕ, Float, None, Option, Some}
+use Rattle.std.specs.Prelude.{Bool, true, not, cond, ◌&&◌, ◌||◌, ℕ, Float, None, Option, Some, is_some}
 use Rattle.std.specs.Float.Ieee as Ieee
 use Rattle.std.specs.Float.{binary64}
 use Rattle.std.specs.Float.Ieee.{of_bits}
@@ -12,7 +12,12 @@ use Rattle.chain.specs.declared.Joints.{Joints}
 use Rattle.chain.specs.Check.{contains}
 use Rattle.inverse.specs.Wraps.{one_turn}
 use Rattle.inverse.specs.declared.Angles.{Angles}
+use Rattle.path.specs.declared.Bound.{Bound}
 use Rattle.path.specs.declared.Bounds.{Bounds}
+
+-- ---- whether there is a second rotary
+abbrev pub has_second : Bounds → Bool
+has_second b = is_some b.second
 
 -- ---- unwinding: by whole turns as near as can be to the angle before, half a turn away from zero
 -- where no turn is needed the bits stay
@@ -57,14 +62,22 @@ permits (Some limits) angle = contains limits angle
 permits None angle = finite angle
 
 unfoldable pub first_inside : Bounds → Joints → Bool
-first_inside b j = permits b.outer j.a0
+first_inside b j = permits b.first.limits j.a0
+
+abbrev pub second_permits : Option Bound → Float → Bool
+second_permits (Some second) angle = permits second.limits angle
+second_permits None angle = true
 
 unfoldable pub second_inside : Bounds → Joints → Bool
-second_inside b j = cond b.two (permits b.inner j.a1) true
+second_inside b j = second_permits b.second j.a1
 
 unfoldable pub inside : Bounds → Joints → Bool
 inside b j = first_inside b j && second_inside b j
 
+abbrev pub letter_or : Option Bound → ℕ → ℕ
+letter_or (Some second) letter = second.letter
+letter_or None letter = letter
+
 -- the letter of the first rotary outside
 unfoldable pub axis_outside : Bounds → Joints → ℕ
-axis_outside b j = cond (first_inside b j) b.second_letter b.first_letter
+axis_outside b j = cond (first_inside b j) (letter_or b.second b.first.letter) b.first.letter

@@ -1,37 +1,29 @@
 // Of two exact solutions the closer one alone, where it is reached and within the limits: the other one then changes
-// nothing, so that its turns and its position are not computed. Nothing says only that both are needed.
+// nothing, so that its turns and its position are not computed. `None` says only that both are needed.
 ghost use Rattle.std.specs.Prelude.{◌≡◌};
 ghost use Rattle.path.specs.Closest as S;
 
-use crate::exact::reached_by;
-use crate::unwinding::{inside, rotary_square, unwind_angles};
-use crate::{Bounds, Setup};
+use crate::exact::turned_to;
+use crate::unwinding::inside;
+use crate::{Aim, Bounds, Setup};
 use chain::Joints;
-use geometry::Vec3;
 use inverse::Angles;
 
 // The joints at these angles, within the limits.
+#[tactic(auto, unfolding(crate::specs::Closest::kept_at))]
 fn kept_at(b: Bounds, j: Joints, angles: Angles) -> Option<Joints>
     ensures { result ≡ S.kept_at b j angles }
 {
-    let xyz = j.xyz;
-    let turned = Joints {
-        xyz,
-        a0: angles.a0,
-        a1: angles.a1,
-    };
-    if inside(b, turned) {
-        return Some(turned);
-    }
-    None
+    let turned = turned_to(j, angles);
+    inside(b, turned).then_some(turned)
 }
 
 // A pair of angles, with the same unwound.
-#[tactic(auto, unfolding(crate::specs::Closest::kept))]
-fn kept(s: Setup, target: Vec3, tip: Vec3, angles: Angles, unwound: Angles) -> Option<Joints>
-    ensures { result ≡ S.kept s target tip angles unwound }
+#[tactic(auto, unfolding(crate::specs::Closest::kept, crate::specs::Exact::reached_by, inverse::specs::Inverse::reached_at))]
+fn kept(s: &Setup, aim: &Aim, angles: Angles, unwound: Angles) -> Option<Joints>
+    ensures { result ≡ S.kept s.now aim.now.target aim.now.tip angles unwound }
 {
-    let j = reached_by(s.chain, target, tip, angles)?;
+    let j = inverse::reached_at(s.chain, aim.target, aim.tip, 0.0, angles)?;
     kept_at(s.bounds, j, unwound)
 }
 
@@ -57,45 +49,37 @@ fn root_before(x: f64, y: f64) -> bool
 }
 
 // Neither of two that tie.
-fn closer(
-    s: Setup,
-    target: Vec3,
-    tip: Vec3,
-    previous: Angles,
-    one: Angles,
-    two: Angles,
-) -> Option<Joints>
-    ensures { result ≡ S.closer s target tip previous one two }
+#[tactic(auto, unfolding(crate::specs::Closest::closer, crate::specs::Unwinding::rotary_distance, crate::specs::Closest::root_before))]
+fn closer(s: &Setup, aim: &Aim, one: Angles, two: Angles) -> Option<Joints>
+    ensures { result ≡ S.closer s.now aim.now.target aim.now.tip aim.now.previous one two }
 {
-    let bounds = s.bounds;
-    let first = unwind_angles(bounds.two, one, previous);
-    let second = unwind_angles(bounds.two, two, previous);
-    let near = rotary_square(bounds.two, first, previous);
-    let far = rotary_square(bounds.two, second, previous);
+    let previous = aim.previous;
+    let first = s.bounds.unwind_angles(one, previous);
+    let second = s.bounds.unwind_angles(two, previous);
+    let near = s.bounds.rotary_square(first, previous);
+    let far = s.bounds.rotary_square(second, previous);
     if root_before(far, near) {
-        return kept(s, target, tip, two, second);
+        return kept(s, aim, two, second);
     }
     if root_before(near, far) {
-        return kept(s, target, tip, one, first);
+        return kept(s, aim, one, first);
     }
     None
 }
 
 // Of two raw pairs that are not the same.
 pub fn closest_alone(
-    s: Setup,
-    target: Vec3,
-    tip: Vec3,
-    previous: Angles,
+    s: &Setup,
+    aim: &Aim,
     one: Option<Angles>,
     two: Option<Angles>,
 ) -> Option<Joints>
-    ensures { result ≡ S.closest_alone s target tip previous one two }
+    ensures { result ≡ S.closest_alone s.now aim.now.target aim.now.tip aim.now.previous one two }
 {
     let first = one?;
     let second = two?;
     if inverse::same_angles(first, second) {
         return None;
     }
-    closer(s, target, tip, previous, first, second)
+    closer(s, aim, first, second)
 }

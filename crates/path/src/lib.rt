@@ -4,6 +4,10 @@
 // touched in one place.
 #![tactic(auto)]
 
+ghost use Rattle.std.specs.Prelude.{◌≡◌, true};
+ghost use Rattle.chain.specs.Check.{all_within, longest};
+ghost use Rattle.path.specs.Closest.{bounded};
+
 mod closest;
 mod exact;
 mod locking;
@@ -12,8 +16,9 @@ mod singular;
 mod solving;
 mod unwinding;
 
-use chain::{Joints, Prepared, RotaryLimits};
+use chain::{Prepared, RotaryLimits};
 use geometry::Vec3;
+use inverse::Angles;
 pub use posing::{bounds_of, pose_answer, set_up};
 pub use solving::{
     clear_from, cone_good, path_chain, pose_in, put_joints, solve_check, solve_checked, solve_path,
@@ -22,25 +27,29 @@ pub use solving::{
 pub use unwinding::inside;
 
 // One rotary whose axis is the singular direction, the second or the first, and the unit direction of that axis, in the
-// sense of the spindle. The cone is the same about the opposite direction.
+// sense of the spindle. The cone is the same about the opposite direction. `on_second` is no enum: no other field means
+// something else by it, and `locks_x` compares it with the map's flag, `map.swapped == f.on_second`.
 #[derive(Clone, Copy)]
 pub struct SingularFrame {
     pub on_second: bool,
     pub direction: Vec3,
 }
 
-// How far each rotary may go, and its letter; `two`: there is a second one.
+// How far a rotary may go, and its letter.
 #[derive(Clone, Copy)]
-pub struct Bounds {
-    pub two: bool,
-    pub outer: Option<RotaryLimits>,
-    pub inner: Option<RotaryLimits>,
-    pub first_letter: u8,
-    pub second_letter: u8,
+pub struct Bound {
+    pub limits: Option<RotaryLimits>,
+    pub letter: u8,
 }
 
-// What is the same for every pose of a path, made once for a call. That the numbers of its chain are bounded is asked
-// by each function, and is no ghost field here: the definition `set_up` makes one of every chain.
+// Those of the first rotary, and of the second where there is one.
+#[derive(Clone, Copy)]
+pub struct Bounds {
+    pub first: Bound,
+    pub second: Option<Bound>,
+}
+
+// What is the same for every pose of a path, made once for a call.
 #[derive(Clone, Copy)]
 pub struct Setup {
     pub chain: Prepared,
@@ -49,9 +58,20 @@ pub struct Setup {
     pub cone: f64,
 }
 
-// A solution, unwound, and how far its angles are from the ones before.
+// One whose chain has passed its check. The fact is no field of `Setup`: `set_up` makes one of every chain.
 #[derive(Clone, Copy)]
-pub struct Ranked {
-    pub joints: Joints,
-    pub distance: f64,
+pub struct CheckedSetup {
+    pub setup: Setup,
+    ghost bounded: { bounded setup.chain ≡ true },
+}
+
+// What is asked of one pose: the unit direction of the tool and the place of its tip, from the angles before. It goes
+// beside its `Setup`, and not in one struct with it: one setup is asked of twice where the lock strays, and written
+// `Asked { s, aim: &pole }` it would be made again there to call one function.
+#[derive(Clone, Copy)]
+pub struct Aim {
+    pub target: Vec3,
+    pub tip: Vec3,
+    pub previous: Angles,
+    ghost within: { all_within tip longest ≡ true },
 }

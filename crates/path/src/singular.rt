@@ -4,10 +4,11 @@ ghost use Rattle.std.specs.Prelude.{◌≡◌};
 ghost use Rattle.path.specs.Singular as S;
 
 use crate::SingularFrame;
-use chain::{Mount, Prepared};
+use chain::Prepared;
 use geometry::{Vec3, dot};
 
 // The axis in the sense of a direction, by its part along that.
+#[tactic(auto, unfolding(crate::specs::Singular::in_sense))]
 fn in_sense(axis: Vec3, along: f64) -> Vec3
     ensures { result ≡ S.in_sense axis along }
 {
@@ -18,6 +19,7 @@ fn in_sense(axis: Vec3, along: f64) -> Vec3
 }
 
 // With that rotary on the spindle, its part along it, and that of the other one.
+#[tactic(auto, unfolding(crate::specs::Singular::frame_on))]
 fn frame_on(
     on_second: bool,
     axis: Vec3,
@@ -41,6 +43,7 @@ fn frame_on(
 }
 
 // Of two rotaries that are as near to the spindle the first.
+#[tactic(auto, unfolding(crate::specs::Singular::frame_of_two))]
 fn frame_of_two(first: Vec3, second: Vec3, spindle: Vec3) -> Option<SingularFrame>
     ensures { result ≡ S.frame_of_two first second spindle }
 {
@@ -52,20 +55,17 @@ fn frame_of_two(first: Vec3, second: Vec3, spindle: Vec3) -> Option<SingularFram
     frame_on(false, first, spindle, one, two)
 }
 
+#[tactic(auto, unfolding(crate::specs::Singular::singular_frame))]
 pub fn singular_frame(p: Prepared) -> Option<SingularFrame>
     ensures { result ≡ S.singular_frame p }
 {
     let first = p.first;
-    let second = p.second;
-    let mount = second.mount;
-    match mount {
-        Mount::Absent => None,
-        Mount::Table => frame_of_two(first.axis, second.axis, p.spindle),
-        Mount::Head => frame_of_two(first.axis, second.axis, p.spindle),
-    }
+    let second = p.second?;
+    frame_of_two(first.axis, second.axis, p.spindle)
 }
 
 // The angle in degrees from a unit axis to the nearer of the two poles.
+#[tactic(auto, unfolding(crate::specs::Singular::pole_clearance_deg))]
 fn pole_clearance_deg(axis: Vec3, direction: Vec3) -> f64
     ensures { result ≡ S.pole_clearance_deg axis direction }
 {
@@ -99,6 +99,7 @@ pub fn in_singular_cone(f: SingularFrame, cone: f64, axis: Vec3) -> bool
     pole_clearance_deg(axis, f.direction) <= cone
 }
 
+#[tactic(auto, unfolding(crate::specs::Singular::nearest_pole))]
 pub fn nearest_pole(target: Vec3, direction: Vec3) -> Vec3
     ensures { result ≡ S.nearest_pole target direction }
 {

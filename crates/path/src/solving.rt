@@ -8,14 +8,16 @@ ghost use Rattle.path.specs.Closest.{bounded};
 ghost use Rattle.path.specs.Solving as S;
 ghost use Rattle.path.specs.Promise.{OnPath, Served};
 
-use crate::Setup;
+use crate::CheckedSetup;
 use crate::posing::{pose_answer, set_up};
 use chain::{Joints, Kinematics, ToolPose, demand};
 use geometry::Vec3;
 use inverse::Angles;
 use refusal::{Cause, Refusal};
 
-// The pose whose six numbers begin there.
+// The pose whose six numbers begin there. By a slice and a place, as the walks over a path have them: with a
+// `From<[f64; 6]>` each would write `poses[at..].first_chunk::<6>()`, and answer for a slice that is too short.
+#[tactic(auto, unfolding(crate::specs::Solving::pose_in))]
 pub fn pose_in(poses: &[f64], at: usize) -> ToolPose
     requires { at + 6 ≤ length poses.now }
     ensures { result ≡ S.pose_in poses.now at }
@@ -56,17 +58,16 @@ pub fn clear_from(out: &mut [f64], from: usize)
 
 // Two rotaries whose unit axes have a cross product shorter than 1e-9. Such a chain can have endless solutions, and
 // which one a path takes would depend on its start.
+#[tactic(auto, unfolding(crate::specs::Solving::parallel, chain::specs::Prepared::unit_axis))]
 fn parallel(k: Kinematics) -> bool
     ensures { result ≡ S.parallel k }
 {
-    let first = k.first;
-    let second = k.second;
-    if k.count == 2 {
-        let outer = geometry::unit_or(first.axis, first.axis);
-        let inner = geometry::unit_or(second.axis, second.axis);
-        return geometry::norm(geometry::cross(outer, inner)) < 1e-9;
-    }
-    false
+    let Some(second) = k.second_rotary() else {
+        return false;
+    };
+    let outer = geometry::unit_or(k.first.axis, k.first.axis);
+    let inner = geometry::unit_or(second.axis, second.axis);
+    inverse::parallel_axes(outer, inner)
 }
 
 // The chain check of every call that walks a path: `inverse` and `choose` serve parallel rotaries, a path does not.
@@ -79,6 +80,7 @@ pub fn path_chain(k: Kinematics) -> Result<(), Refusal>
 }
 
 // Above 0 and at most 10 degrees.
+#[tactic(auto, unfolding(crate::specs::Solving::cone_good))]
 pub fn cone_good(cone: f64) -> bool
     ensures { result ≡ S.cone_good cone }
 {
@@ -88,42 +90,37 @@ pub fn cone_good(cone: f64) -> bool
 fn start_finite(start: Option<Joints>) -> bool
     ensures { result ≡ S.start_finite start }
 {
-    match start {
-        None => true,
-        Some(j) => chain::joints_finite(j),
-    }
+    start.is_none_or(|j| chain::joints_finite(j))
 }
 
 fn start_within(start: Option<Joints>) -> bool
     ensures { result ≡ S.start_within start }
 {
-    match start {
-        None => true,
-        Some(j) => chain::joints_within(j),
-    }
+    start.is_none_or(|j| chain::joints_within(j))
 }
 
 fn start_angles(start: Option<Joints>) -> Angles
     ensures { result ≡ S.start_angles start }
 {
-    match start {
-        None => Angles { a0: 0.0, a1: 0.0 },
-        Some(j) => Angles { a0: j.a0, a1: j.a1 },
-    }
+    start.map_or(Angles::default(), |j| Angles::from(j))
 }
 
+#[tactic(auto, unfolding(crate::specs::Solving::whole_records))]
 pub fn whole_records(numbers: usize, room: usize) -> bool
     ensures { result ≡ S.whole_records numbers room }
 {
     numbers % 6 == 0 && room % 5 == 0
 }
 
+#[tactic(auto, unfolding(crate::specs::Solving::path_sizes))]
 fn path_sizes(k: Kinematics, start: Option<Joints>, count: usize) -> bool
     ensures { result ≡ S.path_sizes k start count }
 {
     chain::chain_within(k) && start_within(start) && count <= 100000
 }
 
+// The chain, the start and the cone are three parameters, as C hands them to `solve_path`: divide asks this too, and
+// `solve_check(Asked { k, start, cone }, numbers, room)` would be written out at both.
 #[tactic(auto, unfolding(crate::specs::Solving::solve_check))]
 pub fn solve_check(
     k: Kinematics,
@@ -142,11 +139,17 @@ pub fn solve_check(
     demand(numbers / 6 <= room / 5, Cause::NoSpace, 0)
 }
 
-// Each pose in turn.
-fn solve_poses(s: Setup, start: Angles, poses: &[f64], out: &mut [f64]) -> Result<(), Refusal>
-    requires { (length poses.now / 6 * 5 ≤ length out.old) × (bounded s.chain ≡ true) }
-    ensures checked { result ≡ S.checked_in (S.solve_poses s start 0 (S.poses_in poses.now)) }
-    ensures lent { out.new ≡ S.path_over (S.solve_poses s start 0 (S.poses_in poses.now)) out.old }
+// Each pose in turn, by its index, which a refusal says and the place in `out` is made of: with
+// `for (i, pose) in poses.as_chunks::<6>().0.iter().enumerate()` it would stand in the loop all the same.
+fn solve_poses(
+    s: &CheckedSetup,
+    start: Angles,
+    poses: &[f64],
+    out: &mut [f64],
+) -> Result<(), Refusal>
+    requires { length poses.now / 6 * 5 ≤ length out.old }
+    ensures checked { result ≡ S.checked_in (S.solve_poses s.now.setup start 0 (S.poses_in poses.now)) }
+    ensures lent { out.new ≡ S.path_over (S.solve_poses s.now.setup start 0 (S.poses_in poses.now)) out.old }
 {
     let n = poses.len() / 6;
     let mut previous = start;
@@ -160,7 +163,7 @@ fn solve_poses(s: Setup, start: Angles, poses: &[f64], out: &mut [f64]) -> Resul
             }
         };
         put_joints(j, out, i * 5);
-        previous = Angles { a0: j.a0, a1: j.a1 };
+        previous = Angles::from(j);
     }
     clear_from(out, n * 5);
     Ok(())
@@ -178,9 +181,10 @@ pub fn solve_checked(
     ensures checked { result ≡ S.checked_in (S.solve_checked k poses.now start cone) }
     ensures lent { out.new ≡ S.path_over (S.solve_checked k poses.now start cone) out.old }
 {
-    let s = set_up(k, cone);
-    let angles = start_angles(start);
-    solve_poses(s, angles, poses, out)
+    let s = CheckedSetup {
+        setup: set_up(k, cone),
+    };
+    solve_poses(&s, start_angles(start), poses, out)
 }
 
 // The joints of every pose, or the first refusal.

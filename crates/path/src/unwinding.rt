@@ -7,6 +7,7 @@ use chain::{Joints, RotaryLimits};
 use inverse::Angles;
 
 // Turned on by that many whole turns; by none, the bits stay.
+#[tactic(auto, unfolding(crate::specs::Unwinding::by_turns))]
 fn by_turns(angle: f64, turns: f64) -> f64
     ensures { result ≡ S.by_turns angle turns }
 {
@@ -17,7 +18,8 @@ fn by_turns(angle: f64, turns: f64) -> f64
 }
 
 // By whole turns as near as can be to the angle before it.
-pub fn unwind_angle(angle: f64, previous: f64) -> f64
+#[tactic(auto, unfolding(crate::specs::Unwinding::unwind_angle))]
+fn unwind_angle(angle: f64, previous: f64) -> f64
     ensures { result ≡ S.unwind_angle angle previous }
 {
     if !float::finite(angle) {
@@ -29,53 +31,16 @@ pub fn unwind_angle(angle: f64, previous: f64) -> f64
     by_turns(angle, float::round((previous - angle) / 360.0))
 }
 
-// Both angles of two rotaries, else the first.
-pub fn unwind_angles(two: bool, angles: Angles, previous: Angles) -> Angles
-    ensures { result ≡ S.unwind_angles two angles previous }
-{
-    let a0 = unwind_angle(angles.a0, previous.a0);
-    if two {
-        let a1 = unwind_angle(angles.a1, previous.a1);
-        return Angles { a0, a1 };
-    }
-    Angles { a0, a1: angles.a1 }
-}
-
-// The square of the length of the change of the angles.
-pub fn rotary_square(two: bool, angles: Angles, previous: Angles) -> f64
-    ensures { result ≡ S.rotary_square two angles previous }
-{
-    let first = angles.a0 - previous.a0;
-    if two {
-        let second = angles.a1 - previous.a1;
-        return 0.0 + first * first + second * second;
-    }
-    0.0 + first * first
-}
-
-// The length of the change of the angles.
-pub fn rotary_distance(two: bool, angles: Angles, previous: Angles) -> f64
-    ensures { result ≡ S.rotary_distance two angles previous }
-{
-    root::root(rotary_square(two, angles, previous))
-}
-
 // More than 90 degrees apart.
+#[tactic(auto, unfolding(crate::specs::Unwinding::split))]
 fn split(left: f64, right: f64) -> bool
     ensures { result ≡ S.split left right }
 {
     90.0 < float::size(left - right)
 }
 
-// Whether a rotary that the chain has is on another branch.
-#[tactic(auto, unfolding(crate::specs::Unwinding::different_branch))]
-pub fn different_branch(two: bool, left: Joints, right: Joints) -> bool
-    ensures { result ≡ S.different_branch two left right }
-{
-    split(left.a0, right.a0) || (two && split(left.a1, right.a1))
-}
-
-// Within the limits, or finite where there are none.
+// Within the limits, or finite where there are none. As `allowed` of crate inverse but for the last test: with that as
+// a closure, `limited_or(travel, angle, |x| float::finite(x))` would be as long as the arm that it stands for.
 fn permits(travel: Option<RotaryLimits>, angle: f64) -> bool
     ensures { result ≡ S.permits travel angle }
 {
@@ -85,34 +50,83 @@ fn permits(travel: Option<RotaryLimits>, angle: f64) -> bool
     }
 }
 
-fn first_inside(b: Bounds, j: Joints) -> bool
-    ensures { result ≡ S.first_inside b j }
-{
-    let outer = b.outer;
-    permits(outer, j.a0)
-}
+// Over the rotaries that there are: the second angle of a chain of one is not looked at.
+impl Bounds {
+    // Both angles of two rotaries, else the first.
+    #[tactic(auto, unfolding(crate::specs::Unwinding::unwind_angles))]
+    pub(crate) fn unwind_angles(&self, angles: Angles, previous: Angles) -> Angles
+        ensures { result ≡ S.unwind_angles (S.has_second self.now) angles previous }
+    {
+        let a0 = unwind_angle(angles.a0, previous.a0);
+        if self.second.is_some() {
+            let a1 = unwind_angle(angles.a1, previous.a1);
+            return Angles { a0, a1 };
+        }
+        Angles { a0, ..angles }
+    }
 
-#[tactic(auto, unfolding(crate::specs::Unwinding::second_inside))]
-fn second_inside(b: Bounds, j: Joints) -> bool
-    ensures { result ≡ S.second_inside b j }
-{
-    let inner = b.inner;
-    !b.two || permits(inner, j.a1)
+    // The square of the length of the change of the angles.
+    #[tactic(auto, unfolding(crate::specs::Unwinding::rotary_square, crate::specs::Unwinding::squared))]
+    pub(crate) fn rotary_square(&self, angles: Angles, previous: Angles) -> f64
+        ensures { result ≡ S.rotary_square (S.has_second self.now) angles previous }
+    {
+        let first = angles.a0 - previous.a0;
+        if self.second.is_some() {
+            let second = angles.a1 - previous.a1;
+            return 0.0 + first * first + second * second;
+        }
+        0.0 + first * first
+    }
+
+    // The length of the change of the angles.
+    #[tactic(auto, unfolding(crate::specs::Unwinding::rotary_distance))]
+    pub(crate) fn rotary_distance(&self, angles: Angles, previous: Angles) -> f64
+        ensures { result ≡ S.rotary_distance (S.has_second self.now) angles previous }
+    {
+        root::root(self.rotary_square(angles, previous))
+    }
+
+    // Whether a rotary is on another branch.
+    #[tactic(auto, unfolding(crate::specs::Unwinding::different_branch))]
+    pub(crate) fn different_branch(&self, left: Joints, right: Joints) -> bool
+        ensures { result ≡ S.different_branch (S.has_second self.now) left right }
+    {
+        split(left.a0, right.a0) || (self.second.is_some() && split(left.a1, right.a1))
+    }
+
+    #[tactic(auto, unfolding(crate::specs::Unwinding::first_inside))]
+    fn first_inside(&self, j: Joints) -> bool
+        ensures { result ≡ S.first_inside self.now j }
+    {
+        permits(self.first.limits, j.a0)
+    }
+
+    #[tactic(auto, unfolding(crate::specs::Unwinding::second_inside))]
+    fn second_inside(&self, j: Joints) -> bool
+        ensures { result ≡ S.second_inside self.now j }
+    {
+        self.second
+            .is_none_or(|second| permits(second.limits, j.a1))
+    }
+
+    // The letter of the first rotary that is outside, of joints that are not inside.
+    #[tactic(auto, unfolding(crate::specs::Unwinding::axis_outside))]
+    pub(crate) fn axis_outside(&self, j: Joints) -> u8
+        ensures { result ≡ S.axis_outside self.now j }
+    {
+        if self.first_inside(j) {
+            return self
+                .second
+                .map_or(self.first.letter, |second| second.letter);
+        }
+        self.first.letter
+    }
 }
 
 // Whether every rotary is within its limits.
+#[tactic(auto, unfolding(crate::specs::Unwinding::inside))]
 pub fn inside(b: Bounds, j: Joints) -> bool
     ensures { result ≡ S.inside b j }
 {
-    first_inside(b, j) && second_inside(b, j)
-}
-
-// The letter of the first rotary that is outside, of joints that are not inside.
-pub fn axis_outside(b: Bounds, j: Joints) -> u8
-    ensures { result ≡ S.axis_outside b j }
-{
-    if first_inside(b, j) {
-        return b.second_letter;
-    }
-    b.first_letter
+    b.first_inside(j) && b.second_inside(j)
 }

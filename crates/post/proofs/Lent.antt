@@ -62,8 +62,8 @@ module _ (bytes : List ℕ) (j : Job) (is : IsJob bytes j) where
       rw (is.read, e, fits)
 
   pub solved : (poses lent divided joints : List Float) (said : Division) (out : List Float) → length poses ≡ 8172 → length divided ≡ 4200 → length joints ≡ 3500 → lent ≡ job_poses bytes poses
-      → said ≡ division_in (solve_and_divide j.chain (take (6 * j.poses) lent) None j.cone (record { chord = j.chord; axis = j.axis }) (length divided) (length joints))
-      → out ≡ joints_left (solve_and_divide j.chain (take (6 * j.poses) lent) None j.cone (record { chord = j.chord; axis = j.axis }) (length divided) (length joints)) joints
+      → said ≡ division_in (solve_and_divide j.chain (take (6 * j.poses) lent) None j.cone j.tol (length divided) (length joints))
+      → out ≡ joints_left (solve_and_divide j.chain (take (6 * j.poses) lent) None j.cone j.tol (length divided) (length joints)) joints
       → (said ≡ division_in (path_of bytes j)) × (out ≡ joints_left (path_of bytes j) joints)
   unfolding path_of
   solved poses lent divided joints said out p q r e f g =
@@ -75,10 +75,10 @@ module _ (bytes : List ℕ) (j : Job) (is : IsJob bytes j) where
   sized_job =
       let l = length_poses in
       let e : length (poses_of bytes j) / 6 ≡ j.poses = omega (arith, l) in
-      rw e at (sized j.chain (poses_of bytes j) None j.cone (record { chord = j.chord; axis = j.axis }))
+      rw e at (sized j.chain (poses_of bytes j) None j.cone j.tol)
 
   pub cabled_job : (poses lent divided joints : List Float) → length poses ≡ 8172 → length divided ≡ 4200 → length joints ≡ 3500 → lent ≡ job_poses bytes poses
-      → Cabled j.chain (solve_and_divide j.chain (take (6 * j.poses) lent) None j.cone (record { chord = j.chord; axis = j.axis }) (length divided) (length joints))
+      → Cabled j.chain (solve_and_divide j.chain (take (6 * j.poses) lent) None j.cone j.tol (length divided) (length joints))
       → Cabled j.chain (path_of bytes j)
   unfolding path_of
   cabled_job poses lent divided joints p q r e c =

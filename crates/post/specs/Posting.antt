@@ -1,7 +1,7 @@
 -- What the program writes for the bytes that it reads, as one text: `post`. Space is for 700 poses, and the path is solved from angles zero.
 -- `NeverRefused`: a path that division served is never refused afterwards.
 use Rattle.std.specs.Prelude.{ℕ, ◌≡◌, List, [], map, Float, Err, None, Ok, Result}
-use Rattle.turn.specs.declared.Stop.{Stop}
+use Rattle.turn.specs.Stops.{cause_of}
 use Rattle.lists.specs.Rows.{flat}
 use Rattle.refusal.specs.declared.Refusal.{Refusal}
 use Rattle.refusal.specs.Numbers.{refusal}
@@ -38,12 +38,11 @@ abbrev pub ended_by : Kinematics → Division → List Float → Ended
 ended_by k (Err (DivisionError.Refused r)) path = Err (JobError.Refused r)
 ended_by k (Err (DivisionError.AtPose r)) path = Err (JobError.AtPose r)
 ended_by k (Ok n) path = wound k n path
-ended_by k (Err (DivisionError.Stopped (Stop.TooMany n))) path = without_path Cause.TooManyInsertions
-ended_by k (Err (DivisionError.Stopped (Stop.NoSpace n))) path = without_path Cause.NoSpace
+ended_by k (Err (DivisionError.Stopped s)) path = without_path (cause_of s)
 
 -- ---- its path, in a space of 4,200 numbers of poses and 3,500 of joints
 unfoldable pub path_of : List ℕ → Job → DivisionAnswer
-path_of bytes j = solve_and_divide j.chain (poses_of bytes j) None j.cone (record { chord = j.chord; axis = j.axis }) 4200 3500
+path_of bytes j = solve_and_divide j.chain (poses_of bytes j) None j.cone j.tol 4200 3500
 
 -- none where it is refused
 abbrev pub joints_of : DivisionAnswer → List Joints

@@ -10,9 +10,7 @@ ghost use Rattle.post.specs.Steps as Steps;
 use chain::Kinematics;
 use divide::DivisionError;
 use job::{Figures, Job, JobError};
-use middle::Tolerances;
 use refusal::{Cause, Refusal};
-use turn::Stop;
 
 // Room for the 1,362 poses that a job may have, for 700 in its path, and for the text of so many.
 #[derive(Drop)]
@@ -35,7 +33,7 @@ pub fn post(bytes: &[u8], room: &mut Room) -> usize
 {
     match job::read_job(bytes) {
         Ok(j) => post_job(bytes, j, room),
-        Err(r) => tell(Err(JobError::Refused(r)), &[], &mut room.text),
+        Err(r) => tell(Err(r.into()), &[], &mut room.text),
     }
 }
 
@@ -61,16 +59,12 @@ fn solve(bytes: &[u8], j: Job, room: &mut Room) -> Result<u64, DivisionError>
 {
     job::job_poses(bytes, &mut room.poses)?;
     let numbers = 6 * j.poses as usize;
-    let tol = Tolerances {
-        chord: j.chord,
-        axis: j.axis,
-    };
     divide::solve_and_divide(
         j.chain,
         &room.poses[..numbers],
         None,
         j.cone,
-        tol,
+        j.tol,
         &mut room.divided,
         &mut room.joints,
     )
@@ -81,12 +75,10 @@ fn path_length(given: usize, said: Result<u64, DivisionError>) -> usize
     requires { Steps.path_length given said ≤ 700 }
     ensures { result ≡ Steps.path_length given said }
 {
-    match said {
-        Ok(n) => given + n as usize,
-        Err(_) => 0,
-    }
+    said.map_or(0, |n| given + n as usize)
 }
 
+// No `From<DivisionError>`: both types are of other crates, and what a job tells of a stop is this program's choice.
 fn ended_by(
     k: Kinematics,
     said: Result<u64, DivisionError>,
@@ -96,17 +88,16 @@ fn ended_by(
 {
     match said {
         Ok(n) => wound(k, n, path),
-        Err(DivisionError::Refused(r)) => Err(JobError::Refused(r)),
+        Err(DivisionError::Refused(r)) => Err(r.into()),
         Err(DivisionError::AtPose(r)) => Err(JobError::AtPose(r)),
-        Err(DivisionError::Stopped(Stop::TooMany(_))) => without_path(Cause::TooManyInsertions),
-        Err(DivisionError::Stopped(Stop::NoSpace(_))) => without_path(Cause::NoSpace),
+        Err(DivisionError::Stopped(stop)) => without_path(stop.cause()),
     }
 }
 
 fn without_path(cause: Cause) -> Result<Figures, JobError>
     ensures { result ≡ S.without_path cause }
 {
-    Err(JobError::Refused(Refusal::new(cause, 0)))
+    Err(Refusal::new(cause, 0).into())
 }
 
 // The cable numbers of both rotaries on a path.

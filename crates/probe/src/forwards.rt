@@ -1,6 +1,10 @@
 // The inner form of forward, for the benchmark: the chain is prepared once, then every record of five joints is taken
 // through it, and all the numbers of the poses are added up.
-ghost use Rattle.std.specs.Prelude.{◌+◌, ◌/◌, ◌≤◌, ◌≡◌, length};
+ghost use Rattle.std.specs.Prelude.{◌/◌, ◌≡◌, length};
+ghost use Rattle.std.specs.List.{fold};
+ghost use Rattle.std.specs.Simd.{first_chunks};
+ghost use Rattle.float.specs.Helpers.{nought};
+ghost use Rattle.geometry.specs.Vector.{plus};
 ghost use Rattle.chain.specs.ChainBytes.{read_chain};
 ghost use Rattle.probe.specs.Forwards as S;
 
@@ -18,31 +22,24 @@ pub extern "C" fn probe_forwards(chain: &[u8], joints: &[f64], tool_length: f64)
     sums(chain::prepare(k), joints, tool_length)
 }
 
-#[tactic(auto, unfolding(crate::specs::Forwards::sums))]
+// Over chunks, of which `sums_fold` says that they are the records.
 fn sums(p: Prepared, joints: &[f64], tool_length: f64) -> f64
-    ensures { result ≡ S.sums p joints.now tool_length (length joints.now / 5) }
+    ensures { result ≡ fold (λ s c. plus s (S.sum_at p c tool_length 0)) nought (first_chunks 5 (length joints.now / 5) joints.now) }
 {
-    let mut sum = 0.0;
-    for i in 0..joints.len() / 5 {
-        sum = sum + sum_at(p, joints, tool_length, i * 5);
-    }
-    sum
+    let (sets, _) = joints.as_chunks::<5>();
+    sets.iter()
+        .fold(0.0, |sum, set| sum + sum_of(p, set, tool_length))
 }
 
+// By hand: turn's `joints_in` would bring six crates more into an archive that ends with chain (turn and what it is
+// built on: path, inverse, halving, middle, arrayvec).
 #[tactic(auto, unfolding(crate::specs::Forwards::sum_at))]
-fn sum_at(p: Prepared, joints: &[f64], tool_length: f64, at: usize) -> f64
-    requires { at + 5 ≤ length joints.now }
-    ensures { result ≡ S.sum_at p joints.now tool_length at }
+fn sum_of(p: Prepared, set: &[f64; 5], tool_length: f64) -> f64
+    ensures { result ≡ S.sum_at p set.now tool_length 0 }
 {
-    let xyz = Vec3 {
-        x: joints[at],
-        y: joints[at + 1],
-        z: joints[at + 2],
-    };
-    let a0 = joints[at + 3];
-    let a1 = joints[at + 4];
+    let [x, y, z, a0, a1] = *set;
     let turns = chain::turns_of(p, a0, a1);
-    let pose = chain::forward_core(p, turns, xyz, tool_length);
+    let pose = chain::forward_core(p, turns, Vec3 { x, y, z }, tool_length);
     pose_sum(pose)
 }
 

@@ -106,9 +106,8 @@ pub extern "C" fn probe_roots(xs: &[f64], answers: &mut [f64])
     ensures { answers.new ≡ roots_over xs.now answers.old }
 {
     let n = xs.len().min(answers.len());
-    // Tried as a `zip` of `iter_mut`: no law says what its writes leave in the slice, so the proof did not close.
-    for i in 0..n {
-        answers[i] = root::root(xs[i]);
+    for (i, answer) in answers[..n].iter_mut().enumerate() {
+        *answer = root::root(xs[i]);
     }
 }
 

@@ -42,10 +42,10 @@ pub fn settle(
     }
     poses.fill(0.0);
     joints.fill(0.0);
-    Err(DivisionError::Refused(Refusal::new(Cause::BalanceShort, 0)))
+    Err(Refusal::new(Cause::BalanceShort, 0).into())
 }
 
-// The given poses with their joint sets divided for a shop.
+// The given poses with their joint sets divided for a shop; chain and tolerances apart, as `subdivide_path` takes them.
 pub fn divide_for(
     balances: &mut [u64],
     shop: u64,

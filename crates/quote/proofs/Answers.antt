@@ -1,9 +1,8 @@
 -- What the call answers and leaves, from what its parts do.
-use Prim.Native.Nat.{ℕ, ◌+◌, ◌/◌}
+use Prim.Native.Nat.{ℕ, ◌+◌, ◌/◌, ◌≤◌}
 use native.Mathlib.Omega.{arith}
 use mathlib.Core.Path.{◌≡◌, refl, sym, ap, ◌∙◌}
-use mathlib.Core.Bool.{Bool, true, false, not, cond}
-use borrow.Author.Tests.{not-true, not-false}
+use mathlib.Core.Bool.{Bool, true, false, cond}
 use mathlib.Core.List.{List, [], ◌∷◌}
 use lib.ListN.{length}
 use lib.Ieee.{Float}
@@ -22,9 +21,11 @@ use Rattle.turn.specs.Turning.{most}
 use Rattle.turn.proofs.Stored.{items_length}
 use Rattle.machine.specs.Dividing.{division}
 use Rattle.divide.specs.Subdividing.{given}
+use Rattle.turn.specs.declared.Stop.{Stop}
 use Rattle.quote.specs.declared.QuoteError.{QuoteError}
 use Rattle.quote.specs.Quotation.{Quote, cost_of, evaluations_of, figures, quote_in, quotation, scratch_enough, quote_check, quote_checked, quote_path, cleared, scratch_left}
 use Rattle.quote.specs.AsDivided.{AsDivided}
+use Rattle.quote.proofs.Checks.{short, enough}
 use Rattle.quote.proofs.Tied.{as_divided}
 
 -- ---- no pose
@@ -45,23 +46,20 @@ in_clears e (Done n r) l = refl
 in_clears e (TooMany n) l = refl
 in_clears e (NoSpace n) l = refl
 
-by_scratch : (b : Bool) (p : Prepared) (tol : Tolerances) (g : List Item) (l : List Float) → scratch_left (cond b (quotation p tol g) (Err QuoteError.NoSpace)) l ≡ cleared l
+by_scratch : (b : Bool) (p : Prepared) (tol : Tolerances) (g : List Item) (l : List Float) → scratch_left (cond b (quotation p tol g) (Err (QuoteError.Stopped (Stop.NoSpace 0)))) l ≡ cleared l
 unfolding scratch_left quotation
 by_scratch true p tol g l = in_clears (evaluations_of p tol g) (division p tol (length g + most) g) l
 by_scratch false p tol g l = refl
 
 -- ---- with too little scratch, and with enough
-pub enough_is : (roomJoints roomTips : ℕ) → not (scratch_enough roomJoints roomTips) ≡ false → scratch_enough roomJoints roomTips ≡ true
-enough_is roomJoints roomTips e = not-false (scratch_enough roomJoints roomTips) e
-
 module _ (k : Kinematics) (tol : Tolerances) (poses joints : List Float) (roomJoints roomTips : ℕ) where
-  pub short_so : not (scratch_enough roomJoints roomTips) ≡ true → Err QuoteError.NoSpace ≡ quote_checked k tol poses joints roomJoints roomTips
+  pub short_so : (50000 ≤ roomJoints → 30000 ≤ roomTips → ⊥) → Err (QuoteError.Stopped (Stop.NoSpace 0)) ≡ quote_checked k tol poses joints roomJoints roomTips
   unfolding quote_checked
-  short_so e = let h = not-true (scratch_enough roomJoints roomTips) e in rw h
+  short_so f = rw (short roomJoints roomTips f)
 
-  pub enough_so : {r : Quote} → not (scratch_enough roomJoints roomTips) ≡ false → r ≡ quotation (prepared k) tol (given poses joints) → r ≡ quote_checked k tol poses joints roomJoints roomTips
+  pub enough_so : {r : Quote} → 50000 ≤ roomJoints → 30000 ≤ roomTips → r ≡ quotation (prepared k) tol (given poses joints) → r ≡ quote_checked k tol poses joints roomJoints roomTips
   unfolding quote_checked
-  enough_so e f = let h = enough_is roomJoints roomTips e in rw h f
+  enough_so a b f = rw (enough roomJoints roomTips a b) f
 
 module _ (k : Kinematics) (tol : Tolerances) (poses joints j₀ t₀ : List Float) where
   abbrev answer : Quote

@@ -1,10 +1,10 @@
 -- What the checks of a quotation leave to the machine, and what it leaves of a scratch.
 use Prim.Native.Nat.{ℕ, ◌*◌, ◌/◌, ◌≤◌}
 use native.Mathlib.Omega.{arith}
-use mathlib.Core.Path.{◌≡◌, ap}
-use mathlib.Core.Bool.{true, ◌&&◌}
+use mathlib.Core.Path.{◌≡◌, refl, ap}
+use mathlib.Core.Bool.{Bool, true, false, ◌&&◌}
 use mathlib.Core.List.{List}
-use borrow.Author.Tests.{leb-true}
+use borrow.Author.Tests.{leb-true, le-leb}
 use lib.Dec.{leb}
 use lib.ListN.{length, replicate}
 use lib.Ieee.{Float}
@@ -60,13 +60,22 @@ module _ (k : Kinematics) (tol : Tolerances) (poses joints : List Float) where
         let d = division_passed e in
         (few_poses (all_pass k tol poses joints 0 0 d).sizes_is, check_lengths k tol poses joints 0 0 d)
 
-fifth : (n : ℕ) → 10000 ≤ n / 5 → 50000 ≤ n
-fifth n h = omega arith
-
-pub enough_joints : (roomJoints roomTips : ℕ) → scratch_enough roomJoints roomTips ≡ true → 50000 ≤ roomJoints
+-- scratch for 10,000 joint sets and as many tips, by the numbers that it holds
+pub enough : (roomJoints roomTips : ℕ) → 50000 ≤ roomJoints → 30000 ≤ roomTips → scratch_enough roomJoints roomTips ≡ true
 unfolding scratch_enough
-enough_joints roomJoints roomTips e =
-    fifth roomJoints (leb-true 10000 (roomJoints / 5) (both (leb 10000 (roomJoints / 5)) (leb 10000 (roomTips / 3)) e).0)
+enough roomJoints roomTips a b = rw (le-leb 10000 (roomJoints / 5) (omega (arith, a)), le-leb 10000 (roomTips / 3) (omega (arith, b)))
+
+pub short : (roomJoints roomTips : ℕ) → (50000 ≤ roomJoints → 30000 ≤ roomTips → ⊥) → scratch_enough roomJoints roomTips ≡ false
+unfolding scratch_enough
+short roomJoints roomTips k = go (scratch_enough roomJoints roomTips) refl
+  where
+    go : (b : Bool) → scratch_enough roomJoints roomTips ≡ b → b ≡ false
+    go true e =
+        let p = both (leb 10000 (roomJoints / 5)) (leb 10000 (roomTips / 3)) e in
+        let j = leb-true 10000 (roomJoints / 5) p.0 in
+        let t = leb-true 10000 (roomTips / 3) p.1 in
+        absurd (k (omega (arith, j)) (omega (arith, t)))
+    go false e = refl
 
 pub cleared_so : (a b : List Float) → length b ≡ length a → replicate (length b) nought ≡ cleared a
 unfolding cleared

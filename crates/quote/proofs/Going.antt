@@ -20,6 +20,7 @@ use Rattle.turn.specs.Items.{item_at, items_in, joints_in}
 use Rattle.turn.specs.Turning.{most}
 use Rattle.turn.proofs.Stored.{items_length}
 use Rattle.machine.specs.Dividing.{division}
+use Rattle.turn.specs.declared.Stop.{Stop}
 use Rattle.quote.specs.declared.Figures.{Figures}
 use Rattle.quote.specs.declared.Place.{Place}
 use Rattle.quote.specs.declared.QuoteError.{QuoteError}
@@ -39,7 +40,7 @@ less_divided i t d a b c = omega arith
 
 -- the answers as functions of what they hold
 abbrev many : ℕ → Quote
-many n = Err (QuoteError.TooMany n)
+many n = Err (QuoteError.Stopped (Stop.TooMany n))
 
 abbrev served : Figures → Quote
 served f = Ok f
@@ -111,7 +112,7 @@ module _ (p : Prepared) (tol : Tolerances) (count : ℕ) (lent solved : List Flo
 
     abbrev After : Option Place → List Float → Type 0
     After (Some next) stack' = Going long stack' next × (to_do count next < to_do count s)
-    After None stack' = quotation p tol all ≡ Err (QuoteError.TooMany 10000)
+    After None stack' = quotation p tol all ≡ Err (QuoteError.Stopped (Stop.TooMany 10000))
 
     abbrev c : ℕ
     c = cost_of tol s.left r
@@ -241,7 +242,7 @@ module _ (p : Prepared) (tol : Tolerances) (count : ℕ) (lent solved : List Flo
 
     abbrev After' : Option Place → List Float → Type 0
     After' (Some next) stack' = Going long stack' next × (to_do count next < to_do count m.place)
-    After' None stack' = quotation p tol all ≡ Err (QuoteError.TooMany 10000)
+    After' None stack' = quotation p tol all ≡ Err (QuoteError.Stopped (Stop.TooMany 10000))
 
     after_here : After' (place_after p tol m.place m.right) stack'
     after_here =
@@ -259,7 +260,7 @@ module _ (p : Prepared) (tol : Tolerances) (count : ℕ) (lent solved : List Flo
     pub going_on : {next : Quoter} → step ≡ Some next → Running long stack' next × (to_do count next.place < to_do count m.place)
     going_on {next} f = by_place (place_after p tol m.place m.right) after_here is-step next f
 
-    no_place : (o : Option Place) → After' o stack' → step ≡ stepped p count lent solved stack' o → step ≡ None → quotation p tol all ≡ Err (QuoteError.TooMany 10000)
+    no_place : (o : Option Place) → After' o stack' → step ≡ stepped p count lent solved stack' o → step ≡ None → quotation p tol all ≡ Err (QuoteError.Stopped (Stop.TooMany 10000))
     no_place None a e f = a
     no_place (Some s) a e f = many_on (sym f ∙ e)
 
@@ -273,10 +274,10 @@ module _ (p : Prepared) (tol : Tolerances) (count : ℕ) (lent solved : List Flo
       ((a1, a2), ((a4, a3), omega arith))
 
   pub advance_needs : {long : ℕ} {stack : List Float} {m : Quoter} → Running long stack m → count ≤ 100000 → goes_on count m.place ≡ true
-      → ((50000 ≤ length stack) × (Runs count m.place × (m.place.top + m.place.next < 10000 + count))) × (m ≡ keeping p count m.place lent solved stack)
+      → (Runs count m.place × (m.place.top + m.place.next < 10000 + count)) × (m ≡ keeping p count m.place lent solved stack)
   unfolding goes_on
   advance_needs {long} {stack} {m} n l e =
-      ((n.going.stack_long, (going_runs n l, ltb-true (m.place.top + m.place.next) (most + count) e)), n.keeps)
+      ((going_runs n l, ltb-true (m.place.top + m.place.next) (most + count) e), n.keeps)
 
   pub going_end : {long : ℕ} {stack : List Float} {m : Quoter} → Running long stack m → goes_on count m.place ≡ false
       → (quotation p tol all ≡ served_at count m.place) × (m.place.inserted ≤ most)

@@ -19,7 +19,7 @@ use Rattle.turn.specs.Items.{item_at, joints_in}
 use Rattle.turn.specs.Turning.{most, axis_at, reached}
 use Rattle.quote.specs.declared.Place.{Place}
 use Rattle.quote.specs.declared.Quoter.{Quoter}
-use Rattle.quote.specs.QuotationSteps.{arrived, next_given, first_waiting, past, with_midpoint, keeping, waiting_axis, end_after, with_middle, Runs}
+use Rattle.quote.specs.QuotationSteps.{arrived, next_given, first_waiting, past, with_midpoint, keeping, waiting_axis, end_after, with_middle}
 use Rattle.quote.proofs.Waiting.{first_put}
 
 pub arrived_mid : (p : Prepared) (x y : Item) → arrived p (midpoint p x y).joints ≡ midpoint p x y
@@ -96,7 +96,7 @@ module _ (p : Prepared) (count : ℕ) (lent solved stack : List Float) where
       go true = refl
       go false = refl
 
-  past_top : (s : Place) (right : Item) (tested : ℕ) → s.top ≤ 10000 → (past s right tested).top ≤ 10000
+  pub past_top : (s : Place) (right : Item) (tested : ℕ) → s.top ≤ 10000 → (past s right tested).top ≤ 10000
   unfolding past
   past_top s right tested h = go (eqb s.top most) (eqb-false s.top most)
     where
@@ -118,18 +118,18 @@ module _ (p : Prepared) (count : ℕ) (lent solved stack : List Float) where
       go true = refl
       go false = e
 
-  -- what `evaluated` asks then
-  pub move_on_needs : (m : Quoter) (tested : ℕ) → m ≡ keeping p count m.place lent solved stack → {s : Place} {endAxis : Vec3} → s ≡ past m.place m.right tested
-      → endAxis ≡ end_after p count m.place.top s.next m.end_axis solved → 50000 ≤ length stack → Runs count m.place
-      → ((50000 ≤ length stack) × (s.top ≤ 10000)) × ((m.right_axis ≡ reached p s.left) × (endAxis ≡ axis_at p solved (next_given count s.next)))
-  move_on_needs m tested e {s} {endAxis} f g long runs =
-      rw f (
-        (long, past_top m.place m.right tested runs.0.0),
-        (
-          right_axis_kept m e ∙ ap (reached p) (sym (past_left m.place m.right tested)),
-          rw f at g ∙ end_past m.place m.right tested m.end_axis (end_kept m e),
-        ),
-      )
+  -- the state then, from its parts
+  pub moved_on : (m : Quoter) (tested : ℕ) → m ≡ keeping p count m.place lent solved stack
+      → {s : Place} {endAxis axis_right : Vec3} {right : Item} → s ≡ past m.place m.right tested
+      → endAxis ≡ end_after p count m.place.top s.next m.end_axis solved
+      → right ≡ first_waiting p count s.top s.next lent solved stack → axis_right ≡ waiting_axis s.top right endAxis
+      → quoter s m.right_axis right axis_right endAxis ≡ keeping p count (past m.place m.right tested) lent solved stack
+  moved_on m tested e {s} {endAxis} {axis_right} {right} f g a b =
+      evaluated_so s
+      (right_axis_kept m e ∙ ap (reached p) (sym (past_left m.place m.right tested) ∙ ap (λ (t : Place). t.left) (sym f)))
+      (rw f at g ∙ end_past m.place m.right tested m.end_axis (end_kept m e) ∙ ap (λ (t : Place). axis_at p solved (next_given count t.next)) (sym f))
+      a b
+      ∙ ap (λ (t : Place). keeping p count t lent solved stack) f
 
   -- ---- a midpoint waits
   pub inserted_kept : (m : Quoter) (middle : Item) (tested : ℕ) → m ≡ keeping p count m.place lent solved stack → middle ≡ arrived p middle.joints

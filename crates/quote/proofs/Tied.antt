@@ -28,6 +28,7 @@ use Rattle.machine.specs.Dividing.{division}
 use Rattle.divide.specs.Checking.{division_check}
 use Rattle.divide.specs.Subdividing.{Kept, Halved, given, division_within, unless_kept, subdivide_path}
 use Rattle.divide.proofs.Idle.{busy_within}
+use Rattle.turn.specs.declared.Stop.{Stop}
 use Rattle.quote.specs.declared.Figures.{Figures}
 use Rattle.quote.specs.declared.QuoteError.{QuoteError}
 use Rattle.quote.specs.Quotation.{Quote, evaluations_of, figures, quote_in, quotation, scratch_whole, scratch_enough, quote_check, unless_refused, quote_checked, quote_path}
@@ -35,26 +36,35 @@ use Rattle.quote.specs.AsDivided.{AsDivided}
 use Rattle.quote.proofs.Checks.{passed_there, division_passed, both_passed}
 
 -- ---- answers that differ, and what one holds
-none_served : {B : Type 0} {f : Figures} → ◌≡◌ {A = Quote} (Err QuoteError.NoSpace) (Ok f) → B
+none_served : {B : Type 0} {f : Figures} → ◌≡◌ {A = Quote} (Err (QuoteError.Stopped (Stop.NoSpace 0))) (Ok f) → B
 none_served e = let z : ◌≡◌ {A = ℕ} 0 1 = cc in absurd (omega arith)
 
-none_many : {B : Type 0} {n : ℕ} → ◌≡◌ {A = Quote} (Err QuoteError.NoSpace) (Err (QuoteError.TooMany n)) → B
+none_many : {B : Type 0} {m n : ℕ} → ◌≡◌ {A = Quote} (Err (QuoteError.Stopped (Stop.NoSpace m))) (Err (QuoteError.Stopped (Stop.TooMany n))) → B
 none_many e = let z : ◌≡◌ {A = ℕ} 0 1 = cc in absurd (omega arith)
 
 refused_served : {B : Type 0} {r : Refusal} {f : Figures} → ◌≡◌ {A = Quote} (Err (QuoteError.Refused r)) (Ok f) → B
 refused_served e = let z : ◌≡◌ {A = ℕ} 0 1 = cc in absurd (omega arith)
 
-refused_many : {B : Type 0} {r : Refusal} {n : ℕ} → ◌≡◌ {A = Quote} (Err (QuoteError.Refused r)) (Err (QuoteError.TooMany n)) → B
+refused_many : {B : Type 0} {r : Refusal} {n : ℕ} → ◌≡◌ {A = Quote} (Err (QuoteError.Refused r)) (Err (QuoteError.Stopped (Stop.TooMany n))) → B
 refused_many e = let z : ◌≡◌ {A = ℕ} 0 1 = cc in absurd (omega arith)
 
-many_served : {B : Type 0} {n : ℕ} {f : Figures} → ◌≡◌ {A = Quote} (Err (QuoteError.TooMany n)) (Ok f) → B
+many_served : {B : Type 0} {n : ℕ} {f : Figures} → ◌≡◌ {A = Quote} (Err (QuoteError.Stopped (Stop.TooMany n))) (Ok f) → B
 many_served e = let z : ◌≡◌ {A = ℕ} 0 1 = cc in absurd (omega arith)
 
 served_one : {f h : Figures} → ◌≡◌ {A = Quote} (Ok f) (Ok h) → f ≡ h
 served_one e = cc
 
-many_one : {m n : ℕ} → ◌≡◌ {A = Quote} (Err (QuoteError.TooMany m)) (Err (QuoteError.TooMany n)) → m ≡ n
+many_one : {m n : ℕ} → ◌≡◌ {A = Quote} (Err (QuoteError.Stopped (Stop.TooMany m))) (Err (QuoteError.Stopped (Stop.TooMany n))) → m ≡ n
 many_one e = cc
+
+served_full : {B : Type 0} {n : ℕ} {f : Figures} → ◌≡◌ {A = Quote} (Ok f) (Err (QuoteError.Stopped (Stop.NoSpace n))) → B
+served_full e = let z : ◌≡◌ {A = ℕ} 0 1 = cc in absurd (omega arith)
+
+refused_full : {B : Type 0} {r : Refusal} {n : ℕ} → ◌≡◌ {A = Quote} (Err (QuoteError.Refused r)) (Err (QuoteError.Stopped (Stop.NoSpace n))) → B
+refused_full e = let z : ◌≡◌ {A = ℕ} 0 1 = cc in absurd (omega arith)
+
+full_one : {m n : ℕ} → ◌≡◌ {A = Quote} (Err (QuoteError.Stopped (Stop.NoSpace m))) (Err (QuoteError.Stopped (Stop.NoSpace n))) → m ≡ n
+full_one e = cc
 
 kept_halved : {B : Type 0} {r : Refusal} {x : Answer Item} → Kept r ≡ Halved x → B
 kept_halved e = let z : ◌≡◌ {A = ℕ} 0 1 = cc in absurd (omega arith)
@@ -74,17 +84,29 @@ undone e (Done n l) f h = let s = served_one h in (l, (ap (λ (q : Figures). Don
 undone e (TooMany n) f h = many_served h
 undone e (NoSpace n) f h = none_served h
 
-unmany : (e : ℕ) (a : Answer Item) (n : ℕ) → quote_in e a ≡ Err (QuoteError.TooMany n) → a ≡ TooMany n
+unmany : (e : ℕ) (a : Answer Item) (n : ℕ) → quote_in e a ≡ Err (QuoteError.Stopped (Stop.TooMany n)) → a ≡ TooMany n
 unmany e (Done k l) n h = many_served (sym h)
 unmany e (TooMany k) n h = ap TooMany (many_one h)
 unmany e (NoSpace k) n h = none_many h
+
+-- without enough space none is counted
+none_counted : (e : ℕ) (a : Answer Item) (n : ℕ) → quote_in e a ≡ Err (QuoteError.Stopped (Stop.NoSpace n)) → n ≡ 0
+none_counted e (Done k l) n h = served_full h
+none_counted e (TooMany k) n h = none_many (sym h)
+none_counted e (NoSpace k) n h = sym (full_one h)
+
+call_counted : (c : Checked) (b : Bool) (e : ℕ) (a : Answer Item) (n : ℕ)
+    → unless_refused c (cond b (quote_in e a) (Err (QuoteError.Stopped (Stop.NoSpace 0)))) ≡ Err (QuoteError.Stopped (Stop.NoSpace n)) → n ≡ 0
+call_counted (Ok _) true e a n h = none_counted e a n h
+call_counted (Ok _) false e a n h = sym (full_one h)
+call_counted (Err r) b e a n h = refused_full h
 
 none_whole : whole_records 0 0 ≡ true
 unfolding whole_records
 none_whole = refl
 
 -- ---- the calls, from their parts
-quote_parts : (c : Checked) (b : Bool) (q y : Quote) → (Err QuoteError.NoSpace ≡ y → ⊥) → ((r : Refusal) → Err (QuoteError.Refused r) ≡ y → ⊥) → unless_refused c (cond b q (Err QuoteError.NoSpace)) ≡ y
+quote_parts : (c : Checked) (b : Bool) (q y : Quote) → (Err (QuoteError.Stopped (Stop.NoSpace 0)) ≡ y → ⊥) → ((r : Refusal) → Err (QuoteError.Refused r) ≡ y → ⊥) → unless_refused c (cond b q (Err (QuoteError.Stopped (Stop.NoSpace 0)))) ≡ y
     → (c ≡ Ok tt) × ((b ≡ true) × (q ≡ y))
 quote_parts (Ok _) true q y u v e = (refl, (refl, e))
 quote_parts (Ok _) false q y u v e = absurd (u e)
@@ -133,7 +155,7 @@ module _ (k : Kinematics) (tol : Tolerances) (poses joints : List Float) where
       (d.0, (leb-true (length g) (space_in a b) d.1.0, d.1.1))
 
   module _ (roomJoints roomTips : ℕ) where
-    quote_by : (y : Quote) → (Err QuoteError.NoSpace ≡ y → ⊥) → ((r : Refusal) → Err (QuoteError.Refused r) ≡ y → ⊥) → quote_path k tol poses joints roomJoints roomTips ≡ y
+    quote_by : (y : Quote) → (Err (QuoteError.Stopped (Stop.NoSpace 0)) ≡ y → ⊥) → ((r : Refusal) → Err (QuoteError.Refused r) ≡ y → ⊥) → quote_path k tol poses joints roomJoints roomTips ≡ y
         → (division_check k tol poses joints 0 0 ≡ Ok tt) × (quotation p tol g ≡ y)
     unfolding quote_path quote_checked
     quote_by y u v e =
@@ -171,24 +193,30 @@ module _ (k : Kinematics) (tol : Tolerances) (poses joints : List Float) where
         (quoted_division ∙ ap (quote_in (evaluations_of p tol g)) (done_anywhere (space_in a b) (length g + most) n r d.1.0 (omega arith) d.1.1))
 
     many_so : scratch_whole roomJoints roomTips ≡ true → scratch_enough roomJoints roomTips ≡ true → (a b n : ℕ) → whole_records a b ≡ true → length g + most ≤ space_in a b
-        → (quote_path k tol poses joints roomJoints roomTips ≡ Err (QuoteError.TooMany n)) ↔ (subdivide_path k tol poses joints a b ≡ Halved (TooMany n))
+        → (quote_path k tol poses joints roomJoints roomTips ≡ Err (QuoteError.Stopped (Stop.TooMany n))) ↔ (subdivide_path k tol poses joints a b ≡ Halved (TooMany n))
     many_so u v a b n w h = (on, back)
       where
-        on : quote_path k tol poses joints roomJoints roomTips ≡ Err (QuoteError.TooMany n) → subdivide_path k tol poses joints a b ≡ Halved (TooMany n)
+        on : quote_path k tol poses joints roomJoints roomTips ≡ Err (QuoteError.Stopped (Stop.TooMany n)) → subdivide_path k tol poses joints a b ≡ Halved (TooMany n)
         on e =
-            let (c, q) = quote_by (Err (QuoteError.TooMany n)) none_many (λ r. refused_many) e in
+            let (c, q) = quote_by (Err (QuoteError.Stopped (Stop.TooMany n))) none_many (λ r. refused_many) e in
             divided_so a b (TooMany n) (passed_there k tol poses joints a b 0 0 w c) (omega arith)
             (many_anywhere (length g + most) (space_in a b) n (omega arith) h (unmany (evaluations_of p tol g) (division p tol (length g + most) g) n (sym quoted_division ∙ q)))
 
-        back : subdivide_path k tol poses joints a b ≡ Halved (TooMany n) → quote_path k tol poses joints roomJoints roomTips ≡ Err (QuoteError.TooMany n)
+        back : subdivide_path k tol poses joints a b ≡ Halved (TooMany n) → quote_path k tol poses joints roomJoints roomTips ≡ Err (QuoteError.Stopped (Stop.TooMany n))
         back e =
             let d = divided_by a b (TooMany n) full_many e in
-            quote_so (Err (QuoteError.TooMany n)) u v (passed_there k tol poses joints 0 0 a b none_whole d.0)
+            quote_so (Err (QuoteError.Stopped (Stop.TooMany n))) u v (passed_there k tol poses joints 0 0 a b none_whole d.0)
             (quoted_division ∙ ap (quote_in (evaluations_of p tol g)) (many_anywhere (space_in a b) (length g + most) n h (omega arith) d.1.1))
+
+    full_so : (n : ℕ) → quote_path k tol poses joints roomJoints roomTips ≡ Err (QuoteError.Stopped (Stop.NoSpace n)) → n ≡ 0
+    unfolding quote_path quote_checked quotation
+    full_so n e =
+        call_counted (quote_check k tol poses joints roomJoints roomTips) (scratch_enough roomJoints roomTips) (evaluations_of p tol g) (division p tol (length g + most) g) n e
 
     pub as_divided : {answer : Quote} → answer ≡ quote_path k tol poses joints roomJoints roomTips → AsDivided k tol poses joints roomJoints roomTips answer
     as_divided e = record {
       quoted = λ f h. quoted_so f (sym e ∙ h);
       divided = λ u v a b n r h. e ∙ divided_quoted u v a b n r h;
       many = λ u v a b n w h. let t = many_so u v a b n w h in (λ q. t.0 (sym e ∙ q), λ q. e ∙ t.1 q);
+      none = λ n h. full_so n (sym e ∙ h);
     }

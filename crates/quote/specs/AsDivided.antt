@@ -9,6 +9,7 @@ use Rattle.middle.specs.declared.Tolerances.{Tolerances}
 use Rattle.turn.specs.Items.{space_in}
 use Rattle.turn.specs.Turning.{most}
 use Rattle.divide.specs.Subdividing.{Halved, given, subdivide_path}
+use Rattle.turn.specs.declared.Stop.{Stop}
 use Rattle.quote.specs.declared.Figures.{Figures}
 use Rattle.quote.specs.declared.QuoteError.{QuoteError}
 use Rattle.quote.specs.Quotation.{Quote, evaluations_of, figures, scratch_whole, scratch_enough}
@@ -24,4 +25,6 @@ pub record AsDivided (k : Kinematics) (tol : Tolerances) (poses joints : List Fl
       → subdivide_path k tol poses joints a b ≡ Halved (Done n r) → answer ≡ Ok (figures n (length r) (evaluations_of (prepared k) tol (given poses joints)))
   -- "27 comes for exactly the same inputs"
   pub many : scratch_whole roomJoints roomTips ≡ true → scratch_enough roomJoints roomTips ≡ true → (a b n : ℕ) → whole_records a b ≡ true
-      → length (given poses joints) + most ≤ space_in a b → (answer ≡ Err (QuoteError.TooMany n)) ↔ (subdivide_path k tol poses joints a b ≡ Halved (TooMany n))
+      → length (given poses joints) + most ≤ space_in a b → (answer ≡ Err (QuoteError.Stopped (Stop.TooMany n))) ↔ (subdivide_path k tol poses joints a b ≡ Halved (TooMany n))
+  -- 28 comes with a count of 0
+  pub none : (n : ℕ) → answer ≡ Err (QuoteError.Stopped (Stop.NoSpace n)) → n ≡ 0

@@ -13,6 +13,7 @@ use Rattle.quoting.specs.Costing as Costing
 use Rattle.middle.specs.declared.Item.{Item}
 use Rattle.middle.specs.declared.Tolerances.{Tolerances}
 use Rattle.middle.specs.Testing.{joints_unchanged, midpoint, divides}
+use Rattle.turn.specs.declared.Stop.{Stop}
 use Rattle.turn.specs.Turning.{most}
 use Rattle.machine.specs.Dividing.{division}
 use Rattle.divide.specs.Checking.{division_check}
@@ -43,8 +44,8 @@ Quote = Result Figures QuoteError
 -- how many are inserted, and how many there are then; with space for all that may be inserted there is no `NoSpace`
 abbrev pub quote_in : ℕ → Answer Item → Quote
 quote_in evaluations (Halving.Done n l) = Ok (figures n (length l) evaluations)
-quote_in evaluations (Halving.TooMany n) = Err (QuoteError.TooMany n)
-quote_in evaluations (Halving.NoSpace n) = Err QuoteError.NoSpace
+quote_in evaluations (Halving.TooMany n) = Err (QuoteError.Stopped (Stop.TooMany n))
+quote_in evaluations (Halving.NoSpace n) = Err (QuoteError.Stopped (Stop.NoSpace 0))
 
 unfoldable pub quotation : Prepared → Tolerances → List Item → Quote
 quotation p tol g = quote_in (evaluations_of p tol g) (division p tol (length g + most) g)
@@ -70,7 +71,7 @@ unless_refused (Err r) answer = Err (QuoteError.Refused r)
 
 unfoldable pub quote_checked : Kinematics → Tolerances → (poses joints : List Float) → (roomJoints roomTips : ℕ) → Quote
 quote_checked k tol poses joints roomJoints roomTips =
-    cond (scratch_enough roomJoints roomTips) (quotation (prepared k) tol (given poses joints)) (Err QuoteError.NoSpace)
+    cond (scratch_enough roomJoints roomTips) (quotation (prepared k) tol (given poses joints)) (Err (QuoteError.Stopped (Stop.NoSpace 0)))
 
 unfoldable pub quote_path : Kinematics → Tolerances → (poses joints : List Float) → (roomJoints roomTips : ℕ) → Quote
 quote_path k tol poses joints roomJoints roomTips =
@@ -82,6 +83,5 @@ cleared l = replicate (length l) nought
 
 unfoldable pub scratch_left : Quote → List Float → List Float
 scratch_left (Err (QuoteError.Refused r)) l = l
-scratch_left (Err QuoteError.NoSpace) l = cleared l
-scratch_left (Err (QuoteError.TooMany n)) l = cleared l
+scratch_left (Err (QuoteError.Stopped s)) l = cleared l
 scratch_left (Ok f) l = cleared l

@@ -1,6 +1,6 @@
 -- One step of the machine that finds a quotation's figures. It keeps no list: the last item that stays and the first
 -- that waits are tested; then the second stays, or their midpoint waits before it.
-use Rattle.std.specs.Prelude.{ℕ, ◌+◌, ◌-◌, ◌*◌, ◌≤◌, Bool, cond, List, eqb, ltb, Float, Err, None, Ok, Option, Some}
+use Rattle.std.specs.Prelude.{ℕ, ⊤, ◌+◌, ◌-◌, ◌*◌, ◌≤◌, Bool, cond, List, eqb, ltb, Float, Err, None, Ok, Option, Some}
 use Rattle.geometry.specs.declared.Vec3.{Vec3}
 use Rattle.chain.specs.declared.Joints.{Joints}
 use Rattle.chain.specs.declared.Prepared.{Prepared}
@@ -10,6 +10,7 @@ use Rattle.middle.specs.declared.Tolerances.{Tolerances}
 use Rattle.middle.specs.Testing.{pose_of, midpoint, divides}
 use Rattle.turn.specs.Items.{item, joints_in, item_at}
 use Rattle.turn.specs.Turning.{most, axis_at, reached}
+use Rattle.turn.specs.declared.Stop.{Stop}
 use Rattle.quote.specs.declared.Place.{Place}
 use Rattle.quote.specs.declared.QuoteError.{QuoteError}
 use Rattle.quote.specs.declared.Quoter.{Quoter}
@@ -99,6 +100,11 @@ with_middle m middle tested = record {
   end_axis = m.end_axis;
 }
 
+-- the state that a step leaves, none where one more is too many
+abbrev pub left_by : Option ⊤ → Quoter → Option Quoter
+left_by None m = None
+left_by (Some _) m = Some m
+
 unfoldable pub inserting : Quoter → Item → ℕ → Option Quoter
 inserting m middle tested = cond (eqb m.place.inserted most) None (Some (with_middle m middle tested))
 
@@ -111,7 +117,7 @@ served_at count s = Ok (figures s.inserted (count + s.inserted) s.evaluations)
 
 abbrev pub answer_in : ℕ → Option Quoter → Quote
 answer_in count (Some last) = served_at count last.place
-answer_in count None = Err (QuoteError.TooMany most)
+answer_in count None = Err (QuoteError.Stopped (Stop.TooMany most))
 
 abbrev pub Few : Option Quoter → Type 0
 Few (Some last) = last.place.inserted ≤ most

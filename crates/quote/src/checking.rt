@@ -13,14 +13,7 @@ pub fn scratch_whole(room_joints: usize, room_tips: usize) -> bool
     room_joints % 5 == 0 && room_tips % 3 == 0
 }
 
-// Space for 10,000 joint sets, and for as many tips.
-#[tactic(auto, unfolding(crate::specs::Quotation::scratch_enough))]
-pub fn scratch_enough(room_joints: usize, room_tips: usize) -> bool
-    ensures { result ≡ S.scratch_enough room_joints room_tips }
-{
-    10000 <= room_joints / 5 && 10000 <= room_tips / 3
-}
-
+// Chain and tolerances apart, and the rooms as numbers, as `divide::division_check` takes them.
 #[tactic(auto, unfolding(crate::specs::Quotation::quote_check))]
 pub fn quote_check(
     k: Kinematics,
@@ -37,5 +30,5 @@ pub fn quote_check(
         Cause::LengthsDiffer,
         0,
     )?;
-    divide::division_check(k, tol, given, solved, solved.len(), 0, 0)
+    divide::division_check(k, tol, given, solved, 0, 0)
 }

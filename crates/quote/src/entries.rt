@@ -5,74 +5,70 @@ ghost use Rattle.divide.specs.Subdividing.{given};
 ghost use Rattle.quote.specs.Quotation as S;
 ghost use Rattle.quote.specs.AsDivided.{AsDivided};
 
-use crate::checking::{quote_check, scratch_enough};
-use crate::stepping::{QuotedPath, answer_in};
+use crate::checking::quote_check;
+use crate::stepping::{NUMBERS, QuotedPath};
 use crate::{Figures, QuoteError};
 use chain::Kinematics;
 use middle::Tolerances;
-use turn::GivenPath;
+use turn::{GivenPath, Stop};
 
-// Of a checked path; what the stack holds afterwards is not said.
-fn quotation(
+// The numbers of 10,000 tips.
+const TIPS: usize = 30000;
+
+// A path that the checks let pass.
+#[derive(Clone, Copy)]
+struct CheckedPath<'a> {
     k: Kinematics,
     tol: Tolerances,
-    path: &GivenPath,
-    stack: &mut [f64],
-) -> Result<Figures, QuoteError>
-    requires { (path.now.count ≤ 100000) × (50000 ≤ length stack.old) }
-    ensures { result ≡ S.quotation (prepared k) tol (given path.now.poses.now path.now.joints.now) }
-{
-    if path.count == 0 {
-        return Ok(Figures {
-            inserted: 0,
-            poses: 0,
-            evaluations: 0,
-        });
-    }
-    let p = chain::prepare(k);
-    let quoted = QuotedPath {
-        p,
-        tol,
-        given: *path,
-    };
-    let ended = quoted.run(stack);
-    answer_in(path.count, ended)
+    given: GivenPath<'a>,
+    ghost few: { given.count ≤ 100000 },
 }
 
-// Where there is scratch for all that may wait.
-fn quote_within(
-    k: Kinematics,
-    tol: Tolerances,
-    path: &GivenPath,
-    stack: &mut [f64],
-    room_tips: usize,
-) -> Result<Figures, QuoteError>
-    requires { path.now.count ≤ 100000 }
-    ensures { result ≡ S.quote_checked k tol path.now.poses.now path.now.joints.now (length stack.old) room_tips }
-{
-    if !scratch_enough(stack.len(), room_tips) {
-        return Err(QuoteError::NoSpace);
+impl CheckedPath<'_> {
+    // What the stack holds afterwards is not said.
+    fn quotation(&self, stack: &mut [f64; NUMBERS]) -> Result<Figures, QuoteError>
+        ensures { let g = self.now.given in result ≡ S.quotation (prepared self.now.k) self.now.tol (given g.poses.now g.joints.now) }
+    {
+        if self.given.count == 0 {
+            return Ok(Figures::default());
+        }
+        let p = chain::prepare(self.k);
+        let quoted = QuotedPath {
+            p,
+            tol: self.tol,
+            given: self.given,
+        };
+        quoted.figures(stack)
     }
-    quotation(k, tol, path, stack)
-}
 
-// With both scratches cleared, whatever it comes to.
-fn quote_checked(
-    k: Kinematics,
-    tol: Tolerances,
-    path: &GivenPath,
-    scratch_joints: &mut [f64],
-    scratch_tips: &mut [f64],
-) -> Result<Figures, QuoteError>
-    requires { path.now.count ≤ 100000 }
-    ensures answer { result ≡ S.quote_checked k tol path.now.poses.now path.now.joints.now (length scratch_joints.old) (length scratch_tips.old) }
-    ensures joints { scratch_joints.new ≡ S.cleared scratch_joints.old }
-    ensures tips { scratch_tips.new ≡ S.cleared scratch_tips.old }
-{
-    let answer = quote_within(k, tol, path, scratch_joints, scratch_tips.len());
-    scratch_joints.fill(0.0);
-    scratch_tips.fill(0.0);
-    answer
+    // Where there is scratch for all that may wait.
+    fn within(&self, stack: &mut [f64], room_tips: usize) -> Result<Figures, QuoteError>
+        ensures { let g = self.now.given in result ≡ S.quote_checked self.now.k self.now.tol g.poses.now g.joints.now (length stack.old) room_tips }
+    {
+        if room_tips < TIPS {
+            return Err(QuoteError::Stopped(Stop::NoSpace(0)));
+        }
+        let Some(waiting) = stack.first_chunk_mut() else {
+            return Err(QuoteError::Stopped(Stop::NoSpace(0)));
+        };
+        self.quotation(waiting)
+    }
+
+    // With both scratches cleared, whatever it comes to.
+    fn cleared(
+        &self,
+        scratch_joints: &mut [f64],
+        scratch_tips: &mut [f64],
+    ) -> Result<Figures, QuoteError>
+        ensures answer { let g = self.now.given in result ≡ S.quote_checked self.now.k self.now.tol g.poses.now g.joints.now (length scratch_joints.old) (length scratch_tips.old) }
+        ensures joints { scratch_joints.new ≡ S.cleared scratch_joints.old }
+        ensures tips { scratch_tips.new ≡ S.cleared scratch_tips.old }
+    {
+        let answer = self.within(scratch_joints, scratch_tips.len());
+        scratch_joints.fill(0.0);
+        scratch_tips.fill(0.0);
+        answer
+    }
 }
 
 // The figures of a division, or its refusal. Scratch for 10,000 joint sets and tips is lent: the checks' refusals keep
@@ -98,10 +94,10 @@ pub fn quote_path(
         scratch_joints.len(),
         scratch_tips.len(),
     )?;
-    let path = GivenPath {
+    let given = GivenPath {
         count: poses.len() / 6,
         poses,
         joints,
     };
-    quote_checked(k, tol, &path, scratch_joints, scratch_tips)
+    CheckedPath { k, tol, given }.cleared(scratch_joints, scratch_tips)
 }

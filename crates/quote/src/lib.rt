@@ -3,7 +3,7 @@
 #![tactic(auto)]
 
 ghost use Rattle.std.specs.Prelude.{◌≡◌};
-ghost use Rattle.quote.specs.declared.QuoteError.TheVariants.{Refused};
+ghost use Rattle.quote.specs.declared.QuoteError.TheVariants.{Refused, Stopped};
 
 mod checking;
 mod entries;
@@ -14,23 +14,23 @@ pub use entries::quote_path;
 use geometry::Vec3;
 use middle::Item;
 use refusal::Refusal;
+use turn::Stop;
 
 // How many poses are inserted, how many the output holds, and how many forward evaluations the tests and insertions
 // count.
-#[derive(Clone, Copy)]
+#[derive(Clone, Copy, Default)]
 pub struct Figures {
     pub inserted: u64,
     pub poses: u64,
     pub evaluations: u64,
 }
 
-// Why a quotation has no figures: a refusal of the checks, too little scratch (28), or an insertion that is one too
-// many (27, with the number inserted).
+// Why a quotation has no figures: a refusal of the checks, or why it ended before its time: too little scratch (28), or
+// an insertion that is one too many (27, with the number inserted).
 #[derive(Clone, Copy)]
 pub enum QuoteError {
     Refused(Refusal),
-    NoSpace,
-    TooMany(u64),
+    Stopped(Stop),
 }
 
 impl From<Refusal> for QuoteError {
@@ -38,6 +38,14 @@ impl From<Refusal> for QuoteError {
 
     fn from(r: Refusal) -> QuoteError {
         QuoteError::Refused(r)
+    }
+}
+
+impl From<Stop> for QuoteError {
+    ghost from_gives = { λ s e. e ≡ Stopped s };
+
+    fn from(s: Stop) -> QuoteError {
+        QuoteError::Stopped(s)
     }
 }
 

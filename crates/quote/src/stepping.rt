@@ -11,7 +11,7 @@ use crate::{Figures, Place, QuoteError, Quoter};
 use chain::{Joints, Prepared};
 use geometry::Vec3;
 use middle::{Item, Tolerances, joints_unchanged, pose_of, verdict_with};
-use turn::{GivenPath, MOST, joints_in};
+use turn::{GivenPath, MOST, Stop, joints_in};
 
 // What is quoted: a given path of at least one pose and at most 100,000, with its chain and the tolerances.
 #[derive(Clone, Copy)]
@@ -23,13 +23,14 @@ pub struct QuotedPath<'a> {
     pub ghost few: { given.count ≤ 100000 },
 }
 
-// How many joint sets may wait.
+// How many joint sets may wait, and how many numbers they are.
 const STACK: usize = 10000;
+
+pub const NUMBERS: usize = 50000;
 
 // How many forward evaluations a test counts: the axes that the two joint sets reach, and their midpoint.
 const PER_TEST: u64 = 3;
 
-#[tactic(auto, unfolding(crate::specs::Quotation::per_test))]
 fn per_test(tol: Tolerances) -> u64
     ensures { result ≡ Q.per_test tol }
 {
@@ -66,68 +67,49 @@ fn waiting_axis(top: usize, right: Item, end_axis: Vec3) -> Vec3
     pose.axis
 }
 
+// The bounds of a place are no ghost fields: `past` and `with_midpoint` of specs/ make a place of any numbers, and so
+// could not be written. A struct around it is no plainer: of the bounds it could keep `top` alone, since that the
+// evaluations stay below theirs is not known of one step; the loop's invariant has it. `tested` is of no struct.
 impl Place {
-    fn past(self, right: Item, tested: u64) -> Place
-        requires { ((self.top ≤ 10000) × (self.next ≤ 100000)) × ((self.evaluations ≤ 1000000000) × (tested ≤ 10)) }
-        ensures { result ≡ S.past self right tested }
+    fn past(&mut self, right: Item, tested: u64)
+        requires { ((self.old.top ≤ 10000) × (self.old.next ≤ 100000)) × ((self.old.evaluations ≤ 1000000000) × (tested ≤ 10)) }
+        ensures { self.new ≡ S.past self.old right tested }
     {
-        let kept = Place {
-            left: right,
-            evaluations: self.evaluations + tested,
-            ..self
-        };
+        self.left = right;
+        self.evaluations += tested;
         if self.top == STACK {
-            return Place {
-                next: self.next + 1,
-                ..kept
-            };
-        }
-        Place {
-            top: self.top + 1,
-            ..kept
+            self.next += 1;
+        } else {
+            self.top += 1;
         }
     }
 
-    fn with_midpoint(self, tested: u64) -> Place
-        requires { ((0 < self.top) × (self.inserted < 10000)) × ((self.evaluations ≤ 1000000000) × (tested ≤ 10)) }
-        ensures { result ≡ S.with_midpoint self tested }
+    fn with_midpoint(&mut self, tested: u64)
+        requires { ((0 < self.old.top) × (self.old.inserted < 10000)) × ((self.old.evaluations ≤ 1000000000) × (tested ≤ 10)) }
+        ensures { self.new ≡ S.with_midpoint self.old tested }
     {
-        Place {
-            top: self.top - 1,
-            inserted: self.inserted + 1,
-            evaluations: self.evaluations + tested + 1,
-            ..self
-        }
+        self.top -= 1;
+        self.inserted += 1;
+        self.evaluations = self.evaluations + tested + 1;
     }
 }
 
+// A step changes the state where it stands: with each given back by value it is slower by its copies.
 impl Quoter {
-    fn with_middle(self, middle: Item, tested: u64) -> Quoter
-        requires { ((0 < self.place.top) × (self.place.inserted < 10000)) × ((self.place.evaluations ≤ 1000000000) × (tested ≤ 10)) }
-        ensures { result ≡ S.with_middle self middle tested }
-    {
-        let place = self.place.with_midpoint(tested);
-        let pose = middle.pose;
-        Quoter {
-            place,
-            right: middle,
-            right_axis: pose.axis,
-            ..self
-        }
-    }
-
     // A midpoint more is one too many, or waits before the first that does.
-    fn insert(self, middle: Item, tested: u64, stack: &mut [f64]) -> Option<Quoter>
-        requires { ((10000 ≤ self.place.top + self.place.inserted) × (self.place.inserted ≤ 10000)) × (((self.place.evaluations ≤ 1000000000) × (tested ≤ 10)) × ((self.place.top ≤ 10000) × (50000 ≤ length stack.old))) }
-        ensures step { result ≡ S.inserting self middle tested }
-        ensures stack { stack.new ≡ S.if_inserted self.place middle stack.old }
+    fn insert(&mut self, middle: Item, tested: u64, stack: &mut [f64; NUMBERS]) -> Option<()>
+        requires { ((10000 ≤ self.old.place.top + self.old.place.inserted) × (self.old.place.inserted ≤ 10000)) × (((self.old.place.evaluations ≤ 1000000000) × (tested ≤ 10)) × (self.old.place.top ≤ 10000)) }
+        ensures step { S.left_by result self.new ≡ S.inserting self.old middle tested }
+        ensures stack { stack.new ≡ S.if_inserted self.old.place middle stack.old }
     {
-        let s = self.place;
-        if s.inserted == MOST {
+        if self.place.inserted == MOST {
             return None;
         }
-        path::put_joints(middle.joints, stack, (s.top - 1) * 5);
-        Some(self.with_middle(middle, tested))
+        path::put_joints(middle.joints, stack, (self.place.top - 1) * 5);
+        self.place.with_midpoint(tested);
+        self.right = middle;
+        self.right_axis = middle.pose.axis;
+        Some(())
     }
 }
 
@@ -143,9 +125,11 @@ impl<'a> QuotedPath<'a> {
         self.given.count - 1
     }
 
+    // `top == STACK` is an empty stack, as an index at the end is of a slice: an `Option` of the top would be matched
+    // in the same four functions. Not of a `Place`, since `end_after` takes the top before a step and `next` after it.
     #[tactic(auto, unfolding(crate::specs::QuotationSteps::first_waiting))]
-    fn first_waiting(&self, top: usize, next: usize, stack: &[f64]) -> Item
-        requires { (50000 ≤ length stack.now) × (top ≤ 10000) }
+    fn first_waiting(&self, top: usize, next: usize, stack: &[f64; NUMBERS]) -> Item
+        requires { top ≤ 10000 }
         ensures { let g = self.now.given in result ≡ S.first_waiting self.now.p g.count top next g.poses.now g.joints.now stack.now }
     {
         if top == STACK {
@@ -155,8 +139,8 @@ impl<'a> QuotedPath<'a> {
     }
 
     // The place with all that is kept of the evaluations.
-    fn evaluated(&self, s: Place, left_axis: Vec3, end_axis: Vec3, stack: &[f64]) -> Quoter
-        requires { ((50000 ≤ length stack.now) × (s.top ≤ 10000)) × ((left_axis ≡ reached self.now.p s.left) × (end_axis ≡ axis_at self.now.p self.now.given.joints.now (S.next_given self.now.given.count s.next))) }
+    fn evaluated(&self, s: Place, left_axis: Vec3, end_axis: Vec3, stack: &[f64; NUMBERS]) -> Quoter
+        requires { (s.top ≤ 10000) × ((left_axis ≡ reached self.now.p s.left) × (end_axis ≡ axis_at self.now.p self.now.given.joints.now (S.next_given self.now.given.count s.next))) }
         ensures { let g = self.now.given in result ≡ S.keeping self.now.p g.count s g.poses.now g.joints.now stack.now }
     {
         let right = self.first_waiting(s.top, s.next, stack);
@@ -182,34 +166,36 @@ impl<'a> QuotedPath<'a> {
     }
 
     // The first that waits stays.
-    fn move_on(&self, m: Quoter, tested: u64, stack: &[f64]) -> Quoter
-        requires { let g = self.now.given in ((50000 ≤ length stack.now) × (S.Runs g.count m.place × (m.place.top + m.place.next < 10000 + g.count))) × ((m ≡ S.keeping self.now.p g.count m.place g.poses.now g.joints.now stack.now) × (tested ≤ 10)) }
-        ensures { let g = self.now.given in result ≡ S.keeping self.now.p g.count (S.past m.place m.right tested) g.poses.now g.joints.now stack.now }
+    fn move_on(&self, m: &mut Quoter, tested: u64, stack: &[f64; NUMBERS])
+        requires { let g = self.now.given in (S.Runs g.count m.old.place × (m.old.place.top + m.old.place.next < 10000 + g.count)) × ((m.old ≡ S.keeping self.now.p g.count m.old.place g.poses.now g.joints.now stack.now) × (tested ≤ 10)) }
+        ensures { let g = self.now.given in m.new ≡ S.keeping self.now.p g.count (S.past m.old.place m.old.right tested) g.poses.now g.joints.now stack.now }
     {
-        let before = m.place;
-        let s = before.past(m.right, tested);
-        let end_axis = self.end_after(before.top, s.next, m.end_axis);
-        self.evaluated(s, m.right_axis, end_axis, stack)
+        let top = m.place.top;
+        m.place.past(m.right, tested);
+        m.left_axis = m.right_axis;
+        m.end_axis = self.end_after(top, m.place.next, m.end_axis);
+        m.right = self.first_waiting(m.place.top, m.place.next, stack);
+        m.right_axis = waiting_axis(m.place.top, m.right, m.end_axis);
     }
 
     // One test of two neighbours, and what comes of it.
-    fn advance(&self, m: Quoter, stack: &mut [f64]) -> Option<Quoter>
-        requires { let g = self.now.given in ((50000 ≤ length stack.old) × (S.Runs g.count m.place × (m.place.top + m.place.next < 10000 + g.count))) × (m ≡ S.keeping self.now.p g.count m.place g.poses.now g.joints.now stack.old) }
-        ensures step { let g = self.now.given in result ≡ S.stepped self.now.p g.count g.poses.now g.joints.now stack.new (S.place_after self.now.p self.now.tol m.place m.right) }
-        ensures stack { stack.new ≡ S.stack_after self.now.p self.now.tol m.place m.right stack.old }
+    fn advance(&self, m: &mut Quoter, stack: &mut [f64; NUMBERS]) -> Option<()>
+        requires { let g = self.now.given in (S.Runs g.count m.old.place × (m.old.place.top + m.old.place.next < 10000 + g.count)) × (m.old ≡ S.keeping self.now.p g.count m.old.place g.poses.now g.joints.now stack.old) }
+        ensures step { let g = self.now.given in S.left_by result m.new ≡ S.stepped self.now.p g.count g.poses.now g.joints.now stack.new (S.place_after self.now.p self.now.tol m.old.place m.old.right) }
+        ensures stack { stack.new ≡ S.stack_after self.now.p self.now.tol m.old.place m.old.right stack.old }
     {
-        let s = m.place;
-        let tested = cost(self.tol, s.left, m.right);
-        let said = verdict_with(self.p, self.tol, s.left, m.right, m.left_axis, m.right_axis);
+        let left = m.place.left;
+        let tested = cost(self.tol, left, m.right);
+        let said = verdict_with(self.p, self.tol, left, m.right, m.left_axis, m.right_axis);
         let Some(middle) = said else {
-            return Some(self.move_on(m, tested, stack));
+            self.move_on(m, tested, stack);
+            return Some(());
         };
         m.insert(middle, tested, stack)
     }
 
     // The first given item stays, and the others wait.
-    fn begin(&self, stack: &[f64]) -> Quoter
-        requires { 50000 ≤ length stack.now }
+    fn begin(&self, stack: &[f64; NUMBERS]) -> Quoter
         ensures { let g = self.now.given in result ≡ S.keeping self.now.p g.count (S.begun g.poses.now g.joints.now) g.poses.now g.joints.now stack.now }
     {
         let left = self.given.item(0);
@@ -234,35 +220,33 @@ impl<'a> QuotedPath<'a> {
     }
 
     // Test after test, until nothing waits or one is too many. How many tests that takes is not known before.
-    pub fn run(&self, stack: &mut [f64]) -> Option<Quoter>
-        requires { 50000 ≤ length stack.old }
+    fn run(&self, stack: &mut [f64; NUMBERS]) -> Option<Quoter>
         ensures answer { let g = self.now.given in Q.quotation self.now.p self.now.tol (items_in g.count g.poses.now g.joints.now) ≡ S.answer_in g.count result }
         ensures few { S.Few result }
     {
         let mut state = self.begin(stack);
         while self.goes_on(state.place) {
-            state = self.advance(state, stack)?;
+            self.advance(&mut state, stack)?;
         }
         Some(state)
     }
-}
 
-// The figures of what the machine came to.
-pub fn answer_in(count: usize, ended: Option<Quoter>) -> Result<Figures, QuoteError>
-    requires { (count ≤ 100000) × S.Few ended }
-    ensures { result ≡ S.answer_in count ended }
-{
-    let last = ended.ok_or(QuoteError::TooMany(MOST))?;
-    Ok(served(count, last.place))
-}
+    // The figures of what the machine comes to.
+    pub fn figures(&self, stack: &mut [f64; NUMBERS]) -> Result<Figures, QuoteError>
+        ensures { let g = self.now.given in result ≡ Q.quotation self.now.p self.now.tol (items_in g.count g.poses.now g.joints.now) }
+    {
+        let last = self.run(stack).ok_or(Stop::TooMany(MOST))?;
+        Ok(self.served(last.place))
+    }
 
-fn served(count: usize, s: Place) -> Figures
-    requires { (count ≤ 100000) × (s.inserted ≤ 10000) }
-    ensures { result ≡ figures s.inserted (count + s.inserted) s.evaluations }
-{
-    Figures {
-        inserted: s.inserted,
-        poses: count as u64 + s.inserted,
-        evaluations: s.evaluations,
+    fn served(&self, s: Place) -> Figures
+        requires { s.inserted ≤ 10000 }
+        ensures { result ≡ figures s.inserted (self.now.given.count + s.inserted) s.evaluations }
+    {
+        Figures {
+            inserted: s.inserted,
+            poses: self.given.count as u64 + s.inserted,
+            evaluations: s.evaluations,
+        }
     }
 }

@@ -89,7 +89,8 @@ impl Cause {
 }
 
 // What a refusal hands back: its cause; where, as the rotary, the link, the pose or the offset that goes with the
-// cause, 0 where there is none; and for LeavesAxis the rotary's letter, else 0.
+// cause, 0 where there is none; and for LeavesAxis the rotary's letter, else 0. No Options: the definitions (`refusal`,
+// `place_in` of crate maztubel) have numbers with 0 for none, and so has C, to which both are handed as they stand.
 #[derive(Clone, Copy)]
 pub struct Refusal {
     pub cause: Cause,

@@ -30,8 +30,8 @@ pub fn check_model<W: Write>(out: &mut W, case: &Case) -> io::Result<()> {
     writeln!(out)
 }
 
-// Not one function with the entry as its parameter: the check refuses an entry of a private module by its name, and a
-// closure around it is this call written out.
+// Not one function with the entry as its parameter. That was tried: the check looks for the entry's contract in the
+// module that maztubel keeps to itself, and finds no such file; a closure around the entry is this call written out.
 pub fn link_world<W: Write>(
     out: &mut W,
     case: &Case,

@@ -25,6 +25,7 @@ fn main(rt: HostRuntime) -> io::Result<()> {
     out.flush()
 }
 
+// A count of turns, though no turn asks for it: a loop until the input ends has nothing that grows smaller.
 fn each_case<R: Read, W: Write>(input: &mut R, out: &mut W) -> io::Result<()> {
     for _ in 0..MOST_CASES {
         if !next_case(input, out)? {

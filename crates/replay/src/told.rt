@@ -1,5 +1,4 @@
 // The line of a case.
-use std::cmp::Ordering;
 use std::io::Write;
 use std::{fmt, io};
 use text::Float;
@@ -58,7 +57,7 @@ impl fmt::Display for Numbers<'_> {
 }
 
 fn same(x: f64, y: f64) -> bool {
-    matches!(float::total_cmp(x, y), Ordering::Equal)
+    float::total_cmp(x, y).is_eq()
 }
 
 // Lent whole numbers behind a colon, in decimals.

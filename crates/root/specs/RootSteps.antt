@@ -1,5 +1,5 @@
 -- The words in which the inner functions of `square_root` promise their results. A reader who believes `Root` needs none of them.
-use Rattle.std.specs.Prelude.{◌≡◌, ℕ, ◌+◌, ◌-◌, ◌*◌, ◌^◌, ◌<◌, ◌≤◌, false, ◌≢◌, Float}
+use Rattle.std.specs.Prelude.{◌≡◌, ℕ, ◌+◌, ◌-◌, ◌*◌, ◌^◌, ◌<◌, ◌≤◌, false, Float, None, Option, Some, ⊤}
 use Rattle.float.specs.Units.{Is}
 use Rattle.root.specs.Root.{root_units}
 
@@ -13,9 +13,10 @@ pub record Nearby (n q : ℕ) : Type 0 where
   pub less : q * q < n + q
   pub more : n ≤ q * q + q
 
--- r is 0, or nearest to the root of m * (1 + o) * 2 ^ 52
-abbrev pub Confirmed : ℕ → ℕ → ℕ → Type 0
-Confirmed m o r = (r ≢ 0) → Nearby (m * (1 + o) * 2 ^ 52) r
+-- what is answered is nearest to the root of m * (1 + o) * 2 ^ 52
+abbrev pub Confirmed : ℕ → ℕ → Option ℕ → Type 0
+Confirmed m o (Some r) = Nearby (m * (1 + o) * 2 ^ 52) r
+Confirmed m o None = ⊤
 
 -- y is the root of m * 2 ^ (f - 65) units
 abbrev pub PartsRoot : ℕ → ℕ → Float → Type 0

@@ -1,6 +1,6 @@
 // IEEE 754's square root of every f64 without a machine's: a guess by floats, confirmed exactly in 64 bits, with the
 // root of a whole number behind it. Nothing is promised of the guess, so any better one can take its place.
-ghost use Rattle.std.specs.Prelude.{◌≡◌, ◌+◌, ◌*◌, ◌%◌, ◌^◌, ◌<◌, ◌≤◌, true, from_bits};
+ghost use Rattle.std.specs.Prelude.{◌≡◌, ◌+◌, ◌*◌, ◌/◌, ◌%◌, ◌^◌, ◌<◌, ◌≤◌, true, from_bits, to_bits};
 ghost use Rattle.std.specs.Float.Ieee.{lt};
 ghost use Rattle.std.specs.Float.{binary64};
 ghost use Rattle.root.specs.RootSteps.{WholeRoot, Nearby, Confirmed, PartsRoot, ScaledRoot, Normal};
@@ -56,78 +56,98 @@ fn estimate(b: u64) -> f64
     z + z * e * (1.0 + 1.5 * e)
 }
 
-// The nearest to the root of m * 2^(52 + o) among q and its two neighbours, or 0: m * (1 + o) * 2^52 + p = q * q + l.
-fn confirmed(m: u64, o: u64, q: u64) -> u64
-    requires { (m < 9007199254740992) × (o < 2) }
-    ensures { Confirmed m o result }
-{
-    if 9007199254740992 < q {
-        return 0;
-    }
-    let a = q / 67108864;
-    let b = q % 67108864;
-    let h = m * (1 + o) + 8;
-    let k = a * a;
-    if h < k {
-        return 0;
-    }
-    let r = h - k;
-    if 2147483648 <= r {
-        return 0;
-    }
-    let t = r * 33554432;
-    let w = a * b;
-    if t < w {
-        return 0;
-    }
-    let u = t - w;
-    if 68719476736 <= u {
-        return 0;
-    }
-    let l = u * 134217728;
-    let p = b * b + 36028797018963968;
-    if p + q < l {
-        if l <= p + 3 * q + 2 {
-            return q + 1;
-        }
-        return 0;
-    }
-    if p < l + q {
-        return q;
-    }
-    if p + 2 < l + 3 * q {
-        return q - 1;
-    }
-    0
+// The digits and the exponent of a normal value above zero: m * 2^(f - 65) units of 2^-1074.
+#[derive(Clone, Copy)]
+struct Parts {
+    m: u64,
+    f: u64,
+    ghost normal: { (4503599627370496 ≤ m) × (m < 9007199254740992) × (1 ≤ f) × (f ≤ 2200) },
 }
 
-// The nearest whole number to the root of m * 2^(52 + o), where no guess was confirmed.
-fn sure_digits(m: u64, o: u64) -> u64
-    requires { (4503599627370496 ≤ m) × (m < 9007199254740992) × (o < 2) }
-    ensures { Nearby (m * (1 + o) * 2 ^ 52) result }
-{
-    (root54(m * (1024 + 1024 * o)) + 1) / 2
-}
-
-// The root of m * 2^(f - 65) units of 2^-1074, rounded, of which the digits are q.
-fn parts_root(m: u64, f: u64, q: u64) -> f64
-    requires { (4503599627370496 ≤ m) × (m < 9007199254740992) × (1 ≤ f) × (f ≤ 2200) × (Nearby (m * (1 + (f + 1) % 2) * 2 ^ 52) q) }
-    ensures { PartsRoot m f result }
-{
-    let e = (f + 957) / 2;
-    f64::from_bits(e * 4503599627370496 + q)
-}
-
-// The root of x * 2^(shift - 64), rounded, for a normal x above zero: the sure way, out of the quick one's way.
-fn sure_root(x: f64, shift: u64) -> f64
+// Those of x * 2^(shift - 64), for a normal x above zero.
+fn apart(x: f64, shift: u64) -> Parts
     requires { (Normal x) × (shift ≤ 64) }
-    ensures { ScaledRoot x shift result }
+    ensures { (result.m ≡ to_bits binary64 x % 4503599627370496 + 4503599627370496) × (result.f ≡ to_bits binary64 x / 4503599627370496 + shift) }
 {
     let b = f64::to_bits(x);
     let f = b / 4503599627370496 + shift;
     let m = b % 4503599627370496 + 4503599627370496;
-    let odd = (f + 1) % 2;
-    parts_root(m, f, sure_digits(m, odd))
+    Parts { m, f }
+}
+
+impl Parts {
+    // The nearest to the root of m * 2^(52 + odd) among q and its two neighbours, where one of them is it:
+    // m * (1 + odd) * 2^52 + p = q * q + l.
+    fn confirmed(self, q: u64) -> Option<u64>
+        ensures { Confirmed self.m ((self.f + 1) % 2) result }
+    {
+        if 9007199254740992 < q {
+            return None;
+        }
+        let a = q / 67108864;
+        let b = q % 67108864;
+        let odd = (self.f + 1) % 2;
+        let h = self.m * (1 + odd) + 8;
+        let k = a * a;
+        if h < k {
+            return None;
+        }
+        let r = h - k;
+        if 2147483648 <= r {
+            return None;
+        }
+        let t = r * 33554432;
+        let w = a * b;
+        if t < w {
+            return None;
+        }
+        let u = t - w;
+        if 68719476736 <= u {
+            return None;
+        }
+        let l = u * 134217728;
+        let p = b * b + 36028797018963968;
+        if p + q < l {
+            if l <= p + 3 * q + 2 {
+                return Some(q + 1);
+            }
+            return None;
+        }
+        if p < l + q {
+            return Some(q);
+        }
+        if p + 2 < l + 3 * q {
+            return Some(q - 1);
+        }
+        None
+    }
+
+    // The nearest whole number to the root of m * 2^(52 + odd), where no guess was confirmed.
+    fn sure_digits(self) -> u64
+        ensures { Nearby (self.m * (1 + (self.f + 1) % 2) * 2 ^ 52) result }
+    {
+        let odd = (self.f + 1) % 2;
+        (root54(self.m * (1024 + 1024 * odd)) + 1) / 2
+    }
+
+    // The root, rounded, of which the digits are q.
+    fn root(self, q: u64) -> f64
+        requires { Nearby (self.m * (1 + (self.f + 1) % 2) * 2 ^ 52) q }
+        ensures { PartsRoot self.m self.f result }
+    {
+        let e = (self.f + 957) / 2;
+        f64::from_bits(e * 4503599627370496 + q)
+    }
+}
+
+// The root of x * 2^(shift - 64), rounded, for a normal x above zero: the sure way, out of the quick one's way.
+#[cold]
+fn sure_root(x: f64, shift: u64) -> f64
+    requires { (Normal x) × (shift ≤ 64) }
+    ensures { ScaledRoot x shift result }
+{
+    let p = apart(x, shift);
+    p.root(p.sure_digits())
 }
 
 // The root of x, rounded, for a normal x above zero.
@@ -136,19 +156,16 @@ fn normal_root(x: f64) -> f64
     ensures { ScaledRoot x 64 result }
 {
     let b = f64::to_bits(x);
-    let f = b / 4503599627370496 + 64;
-    let m = b % 4503599627370496 + 4503599627370496;
-    let odd = (f + 1) % 2;
+    let p = apart(x, 64);
     let guess = estimate((b + 4503599627370496) % 9007199254740992 + 4607182418800017408);
     if guess.is_nan() {
         return sure_root(x, 64);
     }
     let digits = std::num::wrapping_sub_u64(f64::to_bits(guess), 4602678819172646912);
-    let q = confirmed(m, odd, digits);
-    if q == 0 {
-        return sure_root(x, 64);
+    match p.confirmed(digits) {
+        Some(q) => p.root(q),
+        None => sure_root(x, 64),
     }
-    parts_root(m, f, q)
 }
 
 // The root of what is below the least normal value.
@@ -169,10 +186,10 @@ fn small_root(x: f64) -> f64
 pub fn root(x: f64) -> f64
     ensures { result ≡ S.root x }
 {
-    if x < 2.2250738585072014e-308 {
+    if x < f64::MIN_POSITIVE {
         return small_root(x);
     }
-    if x < f64::from_bits(9218868437227405312) {
+    if x < f64::INFINITY {
         return normal_root(x);
     }
     x
@@ -186,10 +203,8 @@ pub fn quick_root(x: f64) -> f64
         return x;
     }
     let b = f64::to_bits(x);
-    if 4607182418766462976 <= b {
-        if b < 4607182418833571840 {
-            return f64::from_bits((b + 4607182418800017408) / 2);
-        }
+    if 4607182418766462976 <= b && b < 4607182418833571840 {
+        return f64::from_bits((b + 4607182418800017408) / 2);
     }
     root(x)
 }

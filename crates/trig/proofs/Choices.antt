@@ -1,5 +1,7 @@
 -- A test and what is chosen by it. Assumes nothing.
 use Rattle.std.proofs.Common.{ℕ, max, min, ltb, ap, arith, ◌≡◌, Bool, true, false, cond, not, T, ◌⊎◌, sym, refl, inl, inr, true≢false}
+use Rattle.std.specs.Prelude.{Option, Some, None}
+use Rattle.std.specs.Option.{is_some, IfSome}
 use borrow.Author.Tests.{ltb-true, ltb-false}
 
 pub not_true : (b : Bool) → b ≡ false → T (not b)
@@ -41,6 +43,12 @@ by_smaller {A} f x y = go (ltb y x) refl
     go : (b : Bool) → ltb y x ≡ b → f (min x y) ≡ cond b (f y) (f x)
     go true e = let h = ltb-true y x e in ap f (omega arith)
     go false e = let h = ltb-false y x e in ap f (omega arith)
+
+-- `then`: what a test lets through, and nothing where it fails
+pub then_is : {A : Type 0} (r : Option A) (b : Bool) (P : A → Type 0) (d : Option A) → is_some r ≡ b → IfSome r P
+    → ((y : A) → P y → b ≡ true → Some y ≡ d) → (b ≡ false → None ≡ d) → r ≡ d
+then_is (Some y) b P d e p f g = f y p (sym e)
+then_is None b P d e p f g = g (sym e)
 
 -- two tests, one after the other
 pub both_true : (a b : Bool) → cond a b false ≡ true → (a ≡ true) × (b ≡ true)

@@ -1,7 +1,8 @@
 -- The angle that each eighth of the plane gives is in the direction of (x, y): y above zero, then below it, then zero. And what the code's tests say. Assumes nothing.
-use Rattle.std.proofs.Common.{◌≡◌, ℕ, zero, suc, ◌+◌, ◌*◌, ◌/◌, ◌^◌, ◌<◌, ◌≤◌, Bool, true, false, ◌&&◌, ◌||◌, T, eqb, ltb, ◌⊎◌, ℤ, pos, negsuc, sym, refl, ap, ◌∙◌, subst, inl, inr, true≢false, le_of_eq, mul-le-mul_right, eq-zero-or-pos, le_antisymm, mul-pos, mul-div_cancel, arith, lit<, lit≤, ltb→lt, lt→ltb}
+use Rattle.std.proofs.Common.{◌≡◌, ℕ, zero, suc, ◌+◌, ◌*◌, ◌/◌, ◌^◌, ◌<◌, ◌≤◌, Bool, true, false, not, ◌&&◌, ◌||◌, T, eqb, ltb, ◌⊎◌, ℤ, pos, negsuc, sym, refl, ap, ◌∙◌, subst, inl, inr, true≢false, le_of_eq, mul-le-mul_right, eq-zero-or-pos, le_antisymm, mul-pos, mul-div_cancel, arith, lit<, lit≤, ltb→lt, lt→ltb}
 use lib.Dec.{eqb_refl}
-use lib.Ieee.{Float, nan, inf, fin, binary64, up, down, neg, div, of_bits, le, lt, eq, fits}
+use lib.Ieee.{Float, nan, inf, fin, binary64, up, down, neg, div, of_bits, le, lt, eq, fits, is_nan}
+use Rattle.std.specs.Float.{is_sign_negative}
 use lib.Ieee.Fits.{down_pos, up_pos}
 use lib.Ieee.Positive.{den as bot}
 use Rattle.float.proofs.Rounding.{Within}
@@ -14,7 +15,7 @@ use Rattle.trig.specs.Arctangent.{half_pi, pi_float, quarter_float}
 use Rattle.float.proofs.UpTo.{one_is}
 use Rattle.trig.proofs.HornerForm.{num}
 use Rattle.trig.proofs.WaveLaws.{zero_test}
-use Rattle.trig.proofs.WaveError.{wave_odd, wave_even, le_cross, zero_of, is_zero, Zero}
+use Rattle.trig.proofs.WaveError.{wave_odd, wave_even, le_cross, zero_of, Zero}
 use Rattle.trig.proofs.GridAngle.{vv, Upper, Lower, Tangent, Angle, val, cn, cd, sn, sd, le_units, lt_units}
 use Rattle.trig.proofs.WaveSteps.{lt_pos, lt_neg}
 use Rattle.float.proofs.Order.{neg_neg}
@@ -455,21 +456,17 @@ finite_no nan h = refl
 finite_no (inf s) h = refl
 finite_no (fin s m e) h = absurd (true≢false h)
 
-sign_plain : (s : Bool) (e : ℤ) → lt (div binary64 one (fin s 0 e)) plus_zero ≡ s
-unfolding lt div of_bits
-sign_plain true e = refl
-sign_plain false e = refl
+pub no_nan : (x : Float) → finite x ≡ true → T (not (is_nan x))
+unfolding is_nan
+no_nan nan F = absurd (true≢false (sym F))
+no_nan (inf s) F = absurd (true≢false (sym F))
+no_nan (fin s m e) F = tt
 
-pub sign_zero : (x : Float) → finite x ≡ true → eq x plus_zero ≡ true → lt (div binary64 one x) plus_zero ≡ negative x
-sign_zero nan F h = absurd (true≢false (sym F))
-sign_zero (inf s) F h = absurd (true≢false (sym F))
-sign_zero (fin s m e) F h = subst (λ (z : ℕ). lt (div binary64 one (fin s z e)) plus_zero ≡ s) (sym (is_zero (fin s m e) h)) (sign_plain s e)
-
-pub sign_other : (x : Float) → finite x ≡ true → eq x plus_zero ≡ false → lt x plus_zero ≡ negative x
-sign_other nan F h = absurd (true≢false (sym F))
-sign_other (inf s) F h = absurd (true≢false (sym F))
-sign_other (fin true m e) F h = lt_neg m e h
-sign_other (fin false m e) F h = lt_pos m e
+pub sign_is : (x : Float) → is_sign_negative x ≡ negative x
+unfolding is_sign_negative
+sign_is nan = refl
+sign_is (inf s) = refl
+sign_is (fin s m e) = refl
 
 pub up_neg : (x : Float) → finite x ≡ true → lt x plus_zero ≡ true → Up (neg x)
 unfolding neg lt of_bits

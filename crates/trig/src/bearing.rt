@@ -1,18 +1,9 @@
 // The angle of (x, y) from the angle of its smaller ratio, by the eighths of the plane (specs/Arctangent.antt).
 ghost use Rattle.std.specs.Prelude.{◌≡◌, ℕ, ◌^◌, ◌<◌, ◌≤◌, Bool, true, false};
 ghost use Rattle.std.specs.Float.Ieee.Scale.{finite as is_finite};
-ghost use Rattle.float.specs.Helpers.{negative as isNegative};
 ghost use Rattle.trig.specs.Arctangent as Arctangent;
 
 use crate::tangent::{grid, grid_angle, passes, start};
-
-// The sign bit.
-fn negative(x: f64) -> bool
-    requires { is_finite x ≡ true }
-    ensures { result ≡ isNegative x }
-{
-    if x == 0.0 { 1.0 / x < 0.0 } else { x < 0.0 }
-}
 
 // a / b, at most 1.
 fn ratio(a: f64, b: f64) -> f64
@@ -30,8 +21,8 @@ fn quarter(z: u64) -> f64
     (z as f64) * 4.440892098500626e-16
 }
 
-// Three functions, and not one with three numbers and a flag: `rise`, `lean` and `back` differ in sign, constant and
-// bound.
+// `lean` differs from the two beside it in sign and side, `rise` and `back` in their constants. One function of both
+// constants would ask for a bound of each, and the two would still be functions: each has its definition.
 
 // pi / 2 less i * 2^-53: past pi / 4.
 fn rise(i: u64) -> f64
@@ -70,12 +61,8 @@ fn flat(t: f64) -> f64
     ensures { result ≡ Arctangent.flat_float t }
 {
     let r = start(t);
-    if 0.0 < r {
-        if r <= 0.7853981633974483 {
-            if passes(t, r) { r } else { coarse(t) }
-        } else {
-            coarse(t)
-        }
+    if 0.0 < r && r <= 0.7853981633974483 && passes(t, r) {
+        r
     } else {
         coarse(t)
     }
@@ -129,8 +116,8 @@ fn level(y: f64, x: f64) -> f64
     requires fact_2 { is_finite x ≡ true }
     ensures { result ≡ Arctangent.level_float y x }
 {
-    if negative(x) {
-        if negative(y) {
+    if x.is_sign_negative() {
+        if y.is_sign_negative() {
             -3.141592653589793
         } else {
             3.141592653589793

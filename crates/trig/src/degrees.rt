@@ -4,8 +4,8 @@ ghost use Rattle.trig.specs.Degrees as Degrees;
 ghost use Rattle.trig.specs.DegreeSteps as DegreeSteps;
 
 use crate::Pair;
-use crate::reduction::Turn;
-use crate::waves::{signed, waves};
+use crate::reduction::Reduced;
+use crate::waves::signed;
 
 // 90 and 45 degrees in units of 2^-47 degrees: from 45 degrees on every double is a whole number of them.
 const QUARTER_TURN: u64 = 12666373951979520;
@@ -38,32 +38,32 @@ fn radians_of(r: u64) -> f64
 
 // The angle a, from 0 to 45,000 degrees, with the nearest k: k * 90 degrees less r where `below`, and plus r otherwise,
 // r in radians. Below 45 degrees k is 0, and the angle needs no units.
-fn reduced(a: f64) -> Turn
+fn reduced(a: f64) -> Reduced
     requires { DegreeSteps.UpToWidest a }
-    ensures { (result.k ≡ DegreeSteps.degree_k a) × (result.below ≡ DegreeSteps.degree_below a) × (result.r ≡ DegreeSteps.degree_rest a) × (result.k ≤ 510) }
+    ensures { (result.k ≡ DegreeSteps.degree_k a) × (result.below ≡ DegreeSteps.degree_below a) × (result.r ≡ DegreeSteps.degree_rest a) }
 {
     if a < 45.0 {
         let r = float::to_radians(a);
-        Turn {
+        return Reduced {
             k: 0,
             below: false,
             r,
-        }
-    } else {
-        let x = std::num::truncating_f64_to_u64(a * 140737488355328.0);
-        let k = quarter_turns(x);
-        let b = k * QUARTER_TURN;
-        if x < b {
-            let r = radians_of(b - x);
-            Turn { k, below: true, r }
-        } else {
-            let r = radians_of(x - b);
-            Turn { k, below: false, r }
-        }
+        };
     }
+    let x = std::num::truncating_f64_to_u64(a * 140737488355328.0);
+    let k = quarter_turns(x);
+    let b = k * QUARTER_TURN;
+    if x < b {
+        let r = radians_of(b - x);
+        return Reduced { k, below: true, r };
+    }
+    let r = radians_of(x - b);
+    Reduced { k, below: false, r }
 }
 
 // Both, of an angle up to 45,000 degrees. `+ 0.0` makes a -0.0 a +0.0, at 180 degrees say, and changes nothing else.
+// Not one function with `pair_value`: the two differ in the answer at a zero, the reduction and the `+ 0.0`, and what
+// they share is `waves`.
 pub fn pair_in_degrees(x: f64) -> Pair
     requires { Degrees.turnable x ≡ true }
     ensures { (result.sine ≡ DegreeSteps.sine_degrees x) × (result.cosine ≡ DegreeSteps.cosine_degrees x) }
@@ -75,8 +75,7 @@ pub fn pair_in_degrees(x: f64) -> Pair
         };
     }
     let a = signed(x, x < 0.0);
-    let t = reduced(a);
-    let p = waves(t.k, t.below, t.r);
+    let p = reduced(a).waves();
     let sine = signed(p.sine, x < 0.0);
     Pair {
         sine: sine + 0.0,

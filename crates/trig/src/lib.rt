@@ -32,12 +32,7 @@ pub fn sine(x: f64) -> Option<f64>
     ensures name { result ≡ Waves.sine_of x }
     ensures right { Waves.SineAnswer x result }
 {
-    if served(x) {
-        let y = sine_value(x);
-        Some(y)
-    } else {
-        None
-    }
+    served(x).then(|| sine_value(x))
 }
 
 // The cosine of x, for |x| <= 800.
@@ -45,12 +40,7 @@ pub fn cosine(x: f64) -> Option<f64>
     ensures name { result ≡ Waves.cosine_of x }
     ensures right { Waves.CosineAnswer x result }
 {
-    if served(x) {
-        let y = cosine_value(x);
-        Some(y)
-    } else {
-        None
-    }
+    served(x).then(|| cosine_value(x))
 }
 
 // Both, from one reduction, and bit for bit what `sine` and `cosine` answer.
@@ -58,12 +48,7 @@ pub fn sine_cosine(x: f64) -> Option<Pair>
     ensures name { result ≡ Waves.paired (Waves.sine_of x) (Waves.cosine_of x) }
     ensures right { Waves.PairRight x result }
 {
-    if served(x) {
-        let p = pair_value(x);
-        Some(p)
-    } else {
-        None
-    }
+    served(x).then(|| pair_value(x))
 }
 
 // The sine and the cosine of an angle in degrees, for |x| <= 45,000: exactly +0.0, 1 or -1 at multiples of 90. Turning
@@ -72,12 +57,7 @@ pub fn of_degrees(x: f64) -> Option<Pair>
     ensures name { result ≡ DegreeSteps.degree_pair x }
     ensures right { Degrees.TurnRight x result }
 {
-    if turnable(x) {
-        let p = pair_in_degrees(x);
-        Some(p)
-    } else {
-        None
-    }
+    turnable(x).then(|| pair_in_degrees(x))
 }
 
 // The angle of the point (x, y): atan2.
@@ -95,7 +75,8 @@ pub fn arctangent(y: f64, x: f64) -> Option<f64>
     Some(r)
 }
 
-// Whether c is from -1 to 1, and so has an arccosine.
+// Whether c is from -1 to 1, and so has an arccosine. Not one function with `served` and `turnable` over the bound:
+// each would still be a function with its name and definition, and a call in place of the two comparisons.
 #[tactic(auto, unfolding(crate::specs::Arccosine::cosine_range))]
 pub fn cosine_range(c: f64) -> bool
     ensures { result ≡ Arccosine.cosine_range c }

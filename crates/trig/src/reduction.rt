@@ -37,36 +37,37 @@ fn rest_float(r: u64) -> f64
     std::num::nearest_u64_to_f64(r) * 2.168404344971009e-19
 }
 
-// An angle: k * Pi / 2 - r where `below`, and k * Pi / 2 + r otherwise.
+// An angle: k quarter turns less r where `below`, and plus r otherwise, r in radians. 510 quarter turns are more than
+// 800 radians and more than 45,000 degrees. `below` is not the sign of r: the definitions `placed`, `turn_below` and
+// `degree_below` have it beside r.
 #[derive(Clone, Copy)]
-pub struct Turn {
+pub struct Reduced {
     pub k: u64,
     pub below: bool,
     pub r: f64,
+    pub ghost few: { k ≤ 510 },
 }
 
 // The angle a, from 0 to 800, with the nearest k.
-pub fn turned(a: f64) -> Turn
+pub fn turned(a: f64) -> Reduced
     requires { Reduction.Tame a }
-    ensures { (result.k ≡ Reduction.turn_k a) × (result.below ≡ Reduction.turn_below a) × (result.r ≡ Reduction.turn_rest a) × (result.k ≤ 510) }
+    ensures { (result.k ≡ Reduction.turn_k a) × (result.below ≡ Reduction.turn_below a) × (result.r ≡ Reduction.turn_rest a) }
 {
     if a <= 0.7853981633974483 {
-        Turn {
+        return Reduced {
             k: 0,
             below: false,
             r: a,
-        }
-    } else {
-        let x = std::num::truncating_f64_to_u64(a * 9007199254740992.0);
-        let k = turns(x);
-        let b = base(k);
-        let p = part(k);
-        if x <= b {
-            let r = rest_float((b - x) * 512 + p);
-            Turn { k, below: true, r }
-        } else {
-            let r = rest_float((x - b) * 512 - p);
-            Turn { k, below: false, r }
-        }
+        };
     }
+    let x = std::num::truncating_f64_to_u64(a * 9007199254740992.0);
+    let k = turns(x);
+    let b = base(k);
+    let p = part(k);
+    if x <= b {
+        let r = rest_float((b - x) * 512 + p);
+        return Reduced { k, below: true, r };
+    }
+    let r = rest_float((x - b) * 512 - p);
+    Reduced { k, below: false, r }
 }

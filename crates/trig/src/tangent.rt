@@ -40,14 +40,11 @@ pub fn passes(t: f64, r: f64) -> bool
 {
     let s = sine_kernel(r);
     let p = t * cosine_kernel(r);
-    if s <= p + SLACK {
-        p <= s + SLACK
-    } else {
-        false
-    }
+    s <= p + SLACK && p <= s + SLACK
 }
 
-// i * 2^-53.
+// i * 2^-53. The grid's numbers have no type of their own, with their bound in it: `bisect` counts with them, and would
+// make such a value of `mid` at each halving, to take it apart at the next.
 pub fn grid(i: u64) -> f64
     requires { i ≤ 7074237752028440 }
     ensures { result ≡ Arctangent.grid_float i }
@@ -82,7 +79,8 @@ fn bisect(t: f64, lo: u64, hi: u64) -> u64
     }
 }
 
-// The guess, rounded to the grid.
+// The guess, rounded to the grid: by the two tests of its definition. `clamp` answers a NaN for a NaN, which this takes
+// to 0; and `saturating_f64_to_u64(f).min(7074237752028440)` would be held to that definition by laws of both.
 fn guess(t: f64) -> u64
     ensures name { result ≡ Arctangent.guess t }
     ensures small { result ≤ 7074237752028440 }

@@ -5,7 +5,7 @@ ghost use Rattle.trig.specs.Kernel.{sine_kernel, cosine_kernel};
 ghost use Rattle.trig.specs.Waves as Waves;
 
 use crate::Pair;
-use crate::reduction::turned;
+use crate::reduction::{Reduced, turned};
 use crate::series::{cosine_kernel, sine_kernel};
 
 // Whether |x| <= 800, and x so has a sine and a cosine.
@@ -16,7 +16,7 @@ pub fn served(x: f64) -> bool
     x <= 800.0 && -800.0 <= x
 }
 
-// y, or -y.
+// y, or -y. The size of x below is this too, and not `float::size`: the same test signs the answer.
 pub fn signed(y: f64, s: bool) -> f64
     ensures { result ≡ (if s then neg y else y) }
 {
@@ -35,32 +35,40 @@ fn place(k: u64, below: bool, s: f64, c: f64) -> f64
     }
 }
 
-// sin (k * Pi / 2 + r), or sin (k * Pi / 2 - r) where `below`: one of the two sums.
-fn wave(k: u64, below: bool, r: f64) -> f64
-    ensures { result ≡ Waves.placed (k % 4) below (sine_kernel r) (cosine_kernel r) }
-{
-    if k % 2 == 0 {
-        let s = sine_kernel(r);
-        place(k, below, s, s)
-    } else {
-        let c = cosine_kernel(r);
-        place(k, below, c, c)
+// Inlined both: out of line an angle of three numbers goes through memory, and the pair takes 42.4 ns, not 38.1.
+impl Reduced {
+    // The sine of the angle and `more` quarter turns: one of the two sums.
+    #[inline(always)]
+    fn wave(self, more: u64) -> f64
+        requires { more ≤ 1 }
+        ensures { result ≡ Waves.placed ((self.k + more) % 4) self.below (sine_kernel self.r) (cosine_kernel self.r) }
+    {
+        let k = self.k + more;
+        if k % 2 == 0 {
+            let s = sine_kernel(self.r);
+            place(k, self.below, s, s)
+        } else {
+            let c = cosine_kernel(self.r);
+            place(k, self.below, c, c)
+        }
+    }
+
+    // That of no quarter turn and of one: the sine and the cosine.
+    #[inline(always)]
+    pub fn waves(self) -> Pair
+        ensures { (result.sine ≡ Waves.placed (self.k % 4) self.below (sine_kernel self.r) (cosine_kernel self.r)) × (result.cosine ≡ Waves.placed ((self.k + 1) % 4) self.below (sine_kernel self.r) (cosine_kernel self.r)) }
+    {
+        let s = sine_kernel(self.r);
+        let c = cosine_kernel(self.r);
+        let sine = place(self.k, self.below, s, c);
+        let cosine = place(self.k + 1, self.below, s, c);
+        Pair { sine, cosine }
     }
 }
 
-// That of k and of k + 1: the sine and the cosine.
-pub fn waves(k: u64, below: bool, r: f64) -> Pair
-    requires { k ≤ 510 }
-    ensures { (result.sine ≡ Waves.placed (k % 4) below (sine_kernel r) (cosine_kernel r)) × (result.cosine ≡ Waves.placed ((k + 1) % 4) below (sine_kernel r) (cosine_kernel r)) }
-{
-    let s = sine_kernel(r);
-    let c = cosine_kernel(r);
-    let sine = place(k, below, s, c);
-    let cosine = place(k + 1, below, s, c);
-    Pair { sine, cosine }
-}
-
-// Not `pair_value(x).sine`, nor is the cosine below its other half: that would compute both sums for one of them.
+// That x is served stands in three contracts, and is tested once before each, by the public functions: a type for it
+// would be made for one call. Not `pair_value(x).sine`, nor is the cosine below its other half: for one of the two it
+// would sum both series.
 pub fn sine_value(x: f64) -> f64
     requires { Waves.served x ≡ true }
     ensures { result ≡ Waves.sine_float x }
@@ -69,8 +77,7 @@ pub fn sine_value(x: f64) -> f64
         return x;
     }
     let a = signed(x, x < 0.0);
-    let t = turned(a);
-    let y = wave(t.k, t.below, t.r);
+    let y = turned(a).wave(0);
     signed(y, x < 0.0)
 }
 
@@ -82,8 +89,7 @@ pub fn cosine_value(x: f64) -> f64
         return 1.0;
     }
     let a = signed(x, x < 0.0);
-    let t = turned(a);
-    wave(t.k + 1, t.below, t.r)
+    turned(a).wave(1)
 }
 
 pub fn pair_value(x: f64) -> Pair
@@ -97,8 +103,7 @@ pub fn pair_value(x: f64) -> Pair
         };
     }
     let a = signed(x, x < 0.0);
-    let t = turned(a);
-    let p = waves(t.k, t.below, t.r);
+    let p = turned(a).waves();
     let sine = signed(p.sine, x < 0.0);
     Pair {
         sine,

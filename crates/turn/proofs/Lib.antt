@@ -3,4 +3,5 @@ pub mod Stored
 pub mod Cached
 pub mod Running
 pub mod Space
-pub mod Scanning
+pub mod Chunks
+pub mod Lent

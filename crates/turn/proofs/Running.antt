@@ -9,7 +9,7 @@ use lib.Arith.{lt_of_le-ne}
 use lib.Dec.{eqb}
 use lib.ListN.{length, get_or, set}
 use lib.Ieee.{Float}
-use Rattle.std.specs.Prelude.{None, Some, Err, Ok}
+use Rattle.std.specs.Prelude.{None, Option, Some, Err, Ok}
 use Rattle.halving.specs.Halving as Halving
 use Rattle.halving.specs.Halving.{halve}
 use Rattle.halving.proofs.Machine.{State, turn_many, turn_full, turn_insert, turn_place, to_do, falls_inserting, falls_placing}
@@ -17,13 +17,37 @@ use Rattle.chain.specs.declared.Prepared.{Prepared}
 use Rattle.turn.specs.declared.Stop.{Stop}
 use Rattle.turn.specs.Items.{item_at, items_in, poses_with, joints_with}
 use Rattle.middle.specs.Testing.{divides, midpoint}
-use Rattle.turn.specs.Turning.{most, axis_at, given_next, axis_right, end_after, past_given, past_inserted, past, before, with_midpoint, inserting, if_inserted, verdict_at, turn, poses_after, joints_after, absent, reached, Cached, Turn}
+use Rattle.turn.specs.Turning.{most, axis_at, given_next, axis_right, end_after, past_given, past_inserted, past, before, with_midpoint, inserting, if_inserted, verdict_at, turn, poses_by, joints_by, poses_after, joints_after, absent, reached, Cached, Turn}
 use Rattle.middle.specs.declared.Item.{Item}
 use Rattle.turn.specs.declared.Machine.{Machine}
 use Rattle.middle.specs.declared.Tolerances.{Tolerances}
 use Rattle.middle.proofs.Verdicts.{verdict_is}
 use Rattle.turn.proofs.Stored.{item_is, item_set, poses_with_long, joints_with_long}
 use Rattle.turn.proofs.Cached.{right_given, right_inserted, placed_given, placed_inserted, put_before}
+
+-- a turn stores in the two lists, and they stay as long
+stored_long : (a b : Bool) (l l' : List Float) → length l' ≡ length l → length (cond a l (cond b l l')) ≡ length l
+stored_long true b l l' e = refl
+stored_long false true l l' e = refl
+stored_long false false l l' e = e
+
+poses_by_long : (m : Machine) (right : Item) (poses : List Float) (v : Option Item) → length (poses_by m right poses v) ≡ length poses
+unfolding if_inserted
+poses_by_long m right poses None = poses_with_long right poses m.placed
+poses_by_long m right poses (Some t) = stored_long (eqb m.inserted most) (eqb m.placed m.waiting) poses (poses_with t poses (before m)) (poses_with_long t poses (before m))
+
+joints_by_long : (m : Machine) (right : Item) (joints : List Float) (v : Option Item) → length (joints_by m right joints v) ≡ length joints
+unfolding if_inserted
+joints_by_long m right joints None = joints_with_long right joints m.placed
+joints_by_long m right joints (Some t) = stored_long (eqb m.inserted most) (eqb m.placed m.waiting) joints (joints_with t joints (before m)) (joints_with_long t joints (before m))
+
+pub poses_after_long : (p : Prepared) (tol : Tolerances) (space : ℕ) (m : Machine) (poses joints : List Float) → length (poses_after p tol space m poses joints) ≡ length poses
+unfolding poses_after
+poses_after_long p tol space m poses joints = poses_by_long m (item_at poses joints m.waiting) poses (verdict_at p tol space m poses joints)
+
+pub joints_after_long : (p : Prepared) (tol : Tolerances) (space : ℕ) (m : Machine) (poses joints : List Float) → length (joints_after p tol space m poses joints) ≡ length joints
+unfolding joints_after
+joints_after_long p tol space m poses joints = joints_by_long m (item_at poses joints m.waiting) joints (verdict_at p tol space m poses joints)
 
 pub axis_there : (p : Prepared) (space : ℕ) (poses joints : List Float) (i : ℕ) → i < space → axis_at p joints i ≡ reached p (get_or (items_in space poses joints) i absent)
 unfolding axis_at item_at

@@ -26,18 +26,19 @@ module _ (p : Prepared) (tol : Tolerances) (space : ℕ) (m : Machine) (poses jo
   unfolding verdict_at
   said_is = rw (← is_right, ← is-axis, ← is-left) is_said
 
-  pub turned_keep : {next : Machine} {poses' joints' : List Float} → said ≡ None → next ≡ past p space m axis joints
-      → poses' ≡ poses_with right poses m.placed → joints' ≡ joints_with right joints m.placed
-      → (Ok next ≡ turn p tol space m poses joints) × ((poses' ≡ poses_after p tol space m poses joints) × (joints' ≡ joints_after p tol space m poses joints))
+  pub turned_keep : {next : Machine} → said ≡ None → next ≡ past p space m axis joints
+      → (Ok next ≡ turn p tol space m poses joints)
+      × ((poses_with right poses m.placed ≡ poses_after p tol space m poses joints) × (joints_with right joints m.placed ≡ joints_after p tol space m poses joints))
   unfolding turn poses_after joints_after
-  turned_keep e f g h =
+  turned_keep e f =
       let v : verdict_at p tol space m poses joints ≡ None = sym said_is ∙ e in
-      (rw (v, ← is_right, ← is-axis, f), (rw (v, ← is_right) g, rw (v, ← is_right) h))
+      (rw (v, ← is_right, ← is-axis, f), (rw (v, ← is_right), rw (v, ← is_right)))
 
-  pub turned_divide : {middle : Item} {r : Turn} {poses' joints' : List Float} → said ≡ Some middle → r ≡ inserting m
-      → poses' ≡ if_inserted m poses (poses_with middle poses (before m)) → joints' ≡ if_inserted m joints (joints_with middle joints (before m))
-      → (r ≡ turn p tol space m poses joints) × ((poses' ≡ poses_after p tol space m poses joints) × (joints' ≡ joints_after p tol space m poses joints))
+  pub turned_divide : {middle : Item} {r : Turn} → said ≡ Some middle → r ≡ inserting m
+      → (r ≡ turn p tol space m poses joints)
+      × ((if_inserted m poses (poses_with middle poses (before m)) ≡ poses_after p tol space m poses joints)
+      × (if_inserted m joints (joints_with middle joints (before m)) ≡ joints_after p tol space m poses joints))
   unfolding turn poses_after joints_after
-  turned_divide {middle} e f g h =
+  turned_divide {middle} e f =
       let v : verdict_at p tol space m poses joints ≡ Some middle = sym said_is ∙ e in
-      (rw v f, (rw v g, rw v h))
+      (rw v f, (rw v, rw v))

@@ -7,7 +7,9 @@ use chain::Prepared;
 use geometry::Vec3;
 use middle::Item;
 
-// As many poses as joint sets.
+// As many poses as joint sets, in the flat numbers that C lends. As `&[[f64; 6]]` and `&[[f64; 5]]` they would be made
+// flat again: the definitions `item_at`, `axis_at` and `items_in` are of flat numbers, so is what the division writes,
+// and each contract would say `flat` of both. The count is no `poses.len() / 6`: each index would be below a quotient.
 #[derive(Clone, Copy)]
 pub struct GivenPath<'a> {
     pub count: usize,

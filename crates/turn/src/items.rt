@@ -1,5 +1,5 @@
 // A pose and its joint set in lent numbers: six in one slice, five in another, at one index.
-ghost use Rattle.std.specs.Prelude.{Bool, ◌+◌, ◌*◌, ◌≤◌, ◌≡◌, length};
+ghost use Rattle.std.specs.Prelude.{Bool, ◌+◌, ◌*◌, ◌/◌, ◌≤◌, ◌≡◌, length};
 ghost use Rattle.lists.specs.Rows.{rows};
 ghost use Rattle.lists.specs.Search.{all};
 ghost use Rattle.turn.specs.Items as S;
@@ -8,7 +8,9 @@ use chain::{Joints, ToolPose};
 use geometry::Vec3;
 use middle::Item;
 
-// The joint set whose five numbers begin there.
+// The joint set whose five numbers begin there. No `From<[f64; 5]>` of `Joints` (which is chain's): most who call have
+// an index in flat numbers, so they would cut an array out at `i * 5` first.
+#[tactic(auto, unfolding(crate::specs::Items::joints_in))]
 pub fn joints_in(joints: &[f64], at: usize) -> Joints
     requires { at + 5 ≤ length joints.now }
     ensures { result ≡ S.joints_in joints.now at }
@@ -25,22 +27,18 @@ pub fn joints_in(joints: &[f64], at: usize) -> Joints
     }
 }
 
-// Whether each of the first `sets` joint sets passes. The index is what `joints_in` and the definition `rows` go by.
-pub fn every_set<F: Fn(Joints) -> bool>(joints: &[f64], sets: usize, test: F) -> bool
-    requires room { sets * 5 ≤ length joints.now }
-    requires asked { F.IsAlwaysCallable test }
-    ensures { (t : Joints → Bool) → ((j : Joints) (b : Bool) → F.post test j b → b ≡ t j) → result ≡ all t (rows 5 S.joints_from sets joints.now) }
+// Whether each of the joint sets passes.
+pub fn every_set<F: Fn(Joints) -> bool>(joints: &[f64], test: F) -> bool
+    requires { F.IsAlwaysCallable test }
+    ensures { (t : Joints → Bool) → ((j : Joints) (b : Bool) → F.post test j b → b ≡ t j) → result ≡ all t (rows 5 S.joints_from (length joints.now / 5) joints.now) }
 {
-    for i in 0..sets {
-        if !test(joints_in(joints, i * 5)) {
-            return false;
-        }
-    }
-    true
+    let (sets, _) = joints.as_chunks::<5>();
+    sets.iter().all(|set| test(joints_in(set, 0)))
 }
 
-// Writes the six numbers of a pose.
-fn put_pose(p: ToolPose, out: &mut [f64], at: usize)
+// Writes the six numbers of a pose. By stores: `copy_from_slice` would want the same six written out as an array.
+#[tactic(auto, unfolding(crate::specs::Items::pose_over))]
+pub fn put_pose(p: ToolPose, out: &mut [f64], at: usize)
     requires { at + 6 ≤ length out.old }
     ensures { out.new ≡ S.pose_over p out.old at }
 {
@@ -54,6 +52,7 @@ fn put_pose(p: ToolPose, out: &mut [f64], at: usize)
     out[at + 5] = axis.z;
 }
 
+#[tactic(auto, unfolding(crate::specs::Items::item_at))]
 pub fn item_at(poses: &[f64], joints: &[f64], i: usize) -> Item
     requires { (i * 6 + 6 ≤ length poses.now) × (i * 5 + 5 ≤ length joints.now) }
     ensures { result ≡ S.item_at poses.now joints.now i }
@@ -63,23 +62,10 @@ pub fn item_at(poses: &[f64], joints: &[f64], i: usize) -> Item
     Item { pose, joints }
 }
 
-// Two outputs are two parameters. In a struct, `room.put(i, t)`, each function that takes it would have to promise
-// beside what it wrote that they are the same two slices: `room.new.poses.ghost_name ≡ room.old.poses.ghost_name`.
-pub fn put_item(t: Item, poses: &mut [f64], joints: &mut [f64], i: usize)
-    requires { (i * 6 + 6 ≤ length poses.old) × (i * 5 + 5 ≤ length joints.old) }
-    ensures poses { poses.new ≡ S.poses_with t poses.old i }
-    ensures joints { joints.new ≡ S.joints_with t joints.old i }
-{
-    put_pose(t.pose, poses, i * 6);
-    path::put_joints(t.joints, joints, i * 5);
-}
-
 // How many items two outputs of so many numbers have space for.
+#[tactic(auto, unfolding(crate::specs::Items::space_in))]
 pub fn space_in(room_poses: usize, room_joints: usize) -> usize
     ensures { result ≡ S.space_in room_poses room_joints }
 {
-    if room_poses / 6 <= room_joints / 5 {
-        return room_poses / 6;
-    }
-    room_joints / 5
+    (room_poses / 6).min(room_joints / 5)
 }

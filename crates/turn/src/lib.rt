@@ -4,16 +4,29 @@
 
 mod given;
 mod items;
+mod outputs;
 mod turning;
 
+use chain::Prepared;
 use geometry::Vec3;
 pub use given::GivenPath;
-pub use items::{every_set, item_at, joints_in, put_item, space_in};
+pub use items::{every_set, item_at, joints_in, space_in};
+use middle::Tolerances;
+pub use outputs::Outputs;
+use refusal::Cause;
 pub use turning::{MOST, axis_at};
+
+// What a division goes by: the chain, made ready, and the tolerances.
+#[derive(Clone, Copy)]
+pub struct Setting {
+    pub p: Prepared,
+    pub tol: Tolerances,
+}
 
 // The state of a halving in lent outputs: how many items are placed; the index of the first that waits; how many were
 // inserted; how many of those that wait are given ones, which stand last; the axis that the last placed joint set
-// reaches; and the one that the first waiting given one reaches, if there is one.
+// reaches; and the one that the first waiting given one reaches. That axis is no Option: `given` says whether there is
+// one, and it is read only where the first that waits is given, so a None would be tested for and never met.
 #[derive(Clone, Copy)]
 pub struct Machine {
     pub placed: usize,
@@ -29,4 +42,26 @@ pub struct Machine {
 pub enum Stop {
     TooMany(u64),
     NoSpace(u64),
+}
+
+impl Stop {
+    ghost use Rattle.std.specs.Prelude.{◌≡◌};
+    ghost use Rattle.turn.specs.Stops as S;
+
+    pub fn cause(self) -> Cause
+        ensures { result ≡ S.cause_of self }
+    {
+        match self {
+            Stop::TooMany(_) => Cause::TooManyInsertions,
+            Stop::NoSpace(_) => Cause::NoSpace,
+        }
+    }
+
+    pub fn inserted(self) -> u64
+        ensures { result ≡ S.inserted_before self }
+    {
+        match self {
+            Stop::TooMany(n) | Stop::NoSpace(n) => n,
+        }
+    }
 }

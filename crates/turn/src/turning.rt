@@ -1,18 +1,20 @@
 // The machine that halves in two lent outputs, turn by turn. Its state is by value; what is placed stands at the front
 // of the outputs, and what waits, given or inserted, in order up to `space`.
-ghost use Rattle.std.specs.Prelude.{◌+◌, ◌*◌, ◌≤◌, ◌<◌, ◌≡◌, length};
+ghost use Rattle.std.specs.Prelude.{◌+◌, ◌-◌, ◌*◌, ◌≤◌, ◌<◌, ◌≡◌, length};
 ghost use Rattle.turn.specs.Turning as S;
 ghost use Rattle.turn.specs.Items as I;
+ghost use Rattle.turn.specs.Lent.{Left};
 
-use crate::items::{item_at, joints_in, put_item};
-use crate::{Machine, Stop};
+use crate::items::joints_in;
+use crate::{Machine, Outputs, Setting, Stop};
 use chain::Prepared;
 use geometry::Vec3;
-use middle::{Item, Tolerances, pose_of, verdict_with};
+use middle::{Item, pose_of, verdict_with};
 
 pub const MOST: u64 = 10000;
 
 // The axis that the joints of an item reach.
+#[tactic(auto, unfolding(crate::specs::Turning::axis_at))]
 pub fn axis_at(p: Prepared, joints: &[f64], i: usize) -> Vec3
     requires { i * 5 + 5 ≤ length joints.now }
     ensures { result ≡ S.axis_at p joints.now i }
@@ -21,123 +23,135 @@ pub fn axis_at(p: Prepared, joints: &[f64], i: usize) -> Vec3
     reached.axis
 }
 
-impl Machine {
-    fn given_next(self, space: usize) -> bool
-        requires { self.waiting ≤ space }
-        ensures { result ≡ S.given_next space self }
+// A state that is not the last: something waits, in outputs with space for so many. Made once at each turn.
+#[derive(Clone, Copy)]
+struct Unfinished {
+    m: Machine,
+    space: usize,
+    ghost begun: { 0 < m.placed },
+    ghost apart: { m.placed ≤ m.waiting },
+    ghost waits: { m.waiting < space },
+    ghost fewer: { m.given ≤ space - m.waiting },
+    ghost few: { m.inserted ≤ 10000 },
+}
+
+impl Unfinished {
+    #[tactic(auto, unfolding(crate::specs::Turning::given_next))]
+    fn given_next(self) -> bool
+        ensures { result ≡ S.given_next self.space self.m }
     {
-        space - self.waiting == self.given
+        self.space - self.m.waiting == self.m.given
     }
 
     // An inserted item has its axis in its own pose.
-    fn right_axis(self, space: usize, right: Item) -> Vec3
-        requires { self.waiting ≤ space }
-        ensures { result ≡ S.axis_right space self right }
+    #[tactic(auto, unfolding(crate::specs::Turning::axis_right))]
+    fn right_axis(self, right: Item) -> Vec3
+        ensures { result ≡ S.axis_right self.space self.m right }
     {
-        if self.given_next(space) {
-            return self.end_axis;
+        if self.given_next() {
+            return self.m.end_axis;
         }
         let pose = right.pose;
         pose.axis
     }
 
+    #[tactic(auto, unfolding(crate::specs::Turning::end_after))]
     fn end_after(self, p: Prepared, joints: &[f64]) -> Vec3
-        requires { (self.waiting + self.given) * 5 ≤ length joints.now }
-        ensures { result ≡ S.end_after p self joints.now }
+        requires { self.space * 5 ≤ length joints.now }
+        ensures { result ≡ S.end_after p self.m joints.now }
     {
-        if self.given <= 1 {
-            return self.end_axis;
+        if self.m.given <= 1 {
+            return self.m.end_axis;
         }
-        axis_at(p, joints, self.waiting + 1)
+        axis_at(p, joints, self.m.waiting + 1)
     }
 
+    #[tactic(auto, unfolding(crate::specs::Turning::past_given))]
     fn past_given(self, p: Prepared, axis: Vec3, joints: &[f64]) -> Machine
-        requires { ((self.placed ≤ self.waiting) × (0 < self.given)) × ((self.waiting + self.given) * 5 ≤ length joints.now) }
-        ensures { result ≡ S.past_given p self axis joints.now }
+        requires { (0 < self.m.given) × (self.space * 5 ≤ length joints.now) }
+        ensures { result ≡ S.past_given p self.m axis joints.now }
     {
         Machine {
-            placed: self.placed + 1,
-            waiting: self.waiting + 1,
-            given: self.given - 1,
+            placed: self.m.placed + 1,
+            waiting: self.m.waiting + 1,
+            given: self.m.given - 1,
             left_axis: axis,
             end_axis: self.end_after(p, joints),
-            ..self
+            ..self.m
         }
     }
 
-    fn past_inserted(self, space: usize, axis: Vec3) -> Machine
-        requires { (self.placed ≤ self.waiting) × (self.waiting < space) }
-        ensures { result ≡ S.past_inserted self axis }
+    #[tactic(auto, unfolding(crate::specs::Turning::past_inserted))]
+    fn past_inserted(self, axis: Vec3) -> Machine
+        ensures { result ≡ S.past_inserted self.m axis }
     {
         Machine {
-            placed: self.placed + 1,
-            waiting: self.waiting + 1,
+            placed: self.m.placed + 1,
+            waiting: self.m.waiting + 1,
             left_axis: axis,
-            ..self
+            ..self.m
         }
     }
 
-    fn past(self, p: Prepared, space: usize, axis: Vec3, joints: &[f64]) -> Machine
-        requires { (self.placed ≤ self.waiting) × ((self.waiting < space) × (space * 5 ≤ length joints.now)) }
-        ensures { result ≡ S.past p space self axis joints.now }
+    fn past(self, p: Prepared, axis: Vec3, out: &Outputs) -> Machine
+        requires { self.space ≤ out.now.space }
+        ensures { result ≡ S.past p self.space self.m axis out.now.joints.now }
     {
-        if self.given_next(space) {
-            return self.past_given(p, axis, joints);
+        if self.given_next() {
+            return self.past_given(p, axis, out.joints);
         }
-        self.past_inserted(space, axis)
+        self.past_inserted(axis)
     }
 
     fn with_midpoint(self) -> Machine
-        requires { (0 < self.waiting) × (self.inserted < 10000) }
-        ensures { result ≡ S.with_midpoint self }
+        requires { self.m.inserted < 10000 }
+        ensures { result ≡ S.with_midpoint self.m }
     {
         Machine {
-            waiting: self.waiting - 1,
-            inserted: self.inserted + 1,
-            ..self
+            waiting: self.m.waiting - 1,
+            inserted: self.m.inserted + 1,
+            ..self.m
         }
     }
 
     // One item more is one too many, or has no space, or waits.
-    fn insert(self, middle: Item, poses: &mut [f64], joints: &mut [f64]) -> Result<Machine, Stop>
-        requires { ((0 < self.placed) × (self.placed ≤ self.waiting)) × ((self.inserted ≤ 10000) × ((self.waiting * 6 ≤ length poses.old) × (self.waiting * 5 ≤ length joints.old))) }
-        ensures turn { result ≡ S.inserting self }
-        ensures poses { poses.new ≡ S.if_inserted self poses.old (I.poses_with middle poses.old (S.before self)) }
-        ensures joints { joints.new ≡ S.if_inserted self joints.old (I.joints_with middle joints.old (S.before self)) }
+    fn insert(self, middle: Item, out: &mut Outputs) -> Result<Machine, Stop>
+        requires { self.space ≤ out.old.space }
+        ensures turn { result ≡ S.inserting self.m }
+        ensures lent { Left out.old (S.if_inserted self.m out.old.poses.now (I.poses_with middle out.old.poses.now (S.before self.m))) (S.if_inserted self.m out.old.joints.now (I.joints_with middle out.old.joints.now (S.before self.m))) out.new }
     {
-        if self.inserted == MOST {
-            return Err(Stop::TooMany(self.inserted));
+        let m = self.m;
+        if m.inserted == MOST {
+            return Err(Stop::TooMany(m.inserted));
         }
-        if self.placed == self.waiting {
-            return Err(Stop::NoSpace(self.inserted));
+        if m.placed == m.waiting {
+            return Err(Stop::NoSpace(m.inserted));
         }
-        put_item(middle, poses, joints, self.waiting - 1);
+        out.put(middle, m.waiting - 1);
         Ok(self.with_midpoint())
     }
+}
 
+impl Machine {
     // One test of two neighbours, and what comes of it.
-    pub fn advance(
-        self,
-        p: Prepared,
-        tol: Tolerances,
-        space: usize,
-        poses: &mut [f64],
-        joints: &mut [f64],
-    ) -> Result<Machine, Stop>
-        requires { S.Runs space self (length poses.old) (length joints.old) }
-        ensures turn { result ≡ S.turn p tol space self poses.old joints.old }
-        ensures poses { poses.new ≡ S.poses_after p tol space self poses.old joints.old }
-        ensures joints { joints.new ≡ S.joints_after p tol space self poses.old joints.old }
+    pub fn advance(self, by: &Setting, out: &mut Outputs) -> Result<Machine, Stop>
+        requires { S.Runs out.old.space self (length out.old.poses.now) (length out.old.joints.now) }
+        ensures turn { result ≡ S.turn by.now.p by.now.tol out.old.space self out.old.poses.now out.old.joints.now }
+        ensures lent { Left out.old (S.poses_after by.now.p by.now.tol out.old.space self out.old.poses.now out.old.joints.now) (S.joints_after by.now.p by.now.tol out.old.space self out.old.poses.now out.old.joints.now) out.new }
     {
-        let left = item_at(poses, joints, self.placed - 1);
-        let right = item_at(poses, joints, self.waiting);
-        let axis = self.right_axis(space, right);
-        let said = verdict_with(p, tol, left, right, self.left_axis, axis);
+        let now = Unfinished {
+            m: self,
+            space: out.space,
+        };
+        let left = out.item(self.placed - 1);
+        let right = out.item(self.waiting);
+        let axis = now.right_axis(right);
+        let said = verdict_with(by.p, by.tol, left, right, self.left_axis, axis);
         let Some(middle) = said else {
-            let next = self.past(p, space, axis, joints);
-            put_item(right, poses, joints, self.placed);
+            let next = now.past(by.p, axis, out);
+            out.put(right, self.placed);
             return Ok(next);
         };
-        self.insert(middle, poses, joints)
+        now.insert(middle, out)
     }
 }

@@ -34,7 +34,7 @@ module _ (k : Kinematics) (poses : List Float) (cone : Float) (tol : Tolerances)
 
   long : (room : ℕ) → write_check k poses cone tol room ≡ Ok tt → length (job_bytes k poses cone tol) ≡ length_of k poses
   unfolding job_length
-  long room e = let a = accepted k poses cone tol room e in length_of_job k poses cone tol a.lettered.counted a.whole a.short
+  long room e = let a = accepted k poses cone tol room e in length_of_job k poses cone tol a.lettered.counted
 
   pub written_all : (out out' : List ℕ) (n : ℕ) → write_check k poses cone tol (length out) ≡ Ok tt → (n ≡ length_of k poses) × (out' ≡ written out 0 (job_bytes k poses cone tol))
       → (Ok n ≡ written_answer k poses cone tol (length out)) × (out' ≡ written_job k poses cone tol out)

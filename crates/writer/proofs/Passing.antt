@@ -9,7 +9,7 @@ use lib.Dec.{eqb, leb}
 use lib.ListN.{length}
 use lib.Ieee.{Float}
 use lib.Ieee.Scale.{finite}
-use Rattle.std.specs.Prelude.{Ok}
+use Rattle.std.specs.Prelude.{None, Ok, Option, Some}
 use Rattle.lists.specs.Search.{all}
 use Rattle.refusal.specs.declared.Cause.{Cause}
 use Rattle.chain.specs.declared.RotaryJoint.{RotaryJoint}
@@ -48,7 +48,7 @@ order_passed k whole cone chord axis finite sizes space e =
     }
 
 -- ---- the chain
-letter_known : (j : RotaryJoint) (earlier i : ℕ) → rotary_check j earlier i ≡ Ok tt → known_letter j.letter ≡ true
+letter_known : (j : RotaryJoint) (earlier : Option ℕ) (i : ℕ) → rotary_check j earlier i ≡ Ok tt → known_letter j.letter ≡ true
 unfolding rotary_check
 letter_known j earlier i e = demand_passed _ _ _ (then_passed (demand (known_letter j.letter) Cause.RotaryLetter i) _ e).0
 
@@ -61,16 +61,16 @@ pub letters : (k : Kinematics) → chain_check k ≡ Ok tt → Lettered k
 unfolding chain_check second_check
 letters k e =
     let a = then_passed (demand (one_or_two k.count) Cause.RotaryCount 0) _ e in
-    let b = then_passed (rotary_check k.first 0 0) _ a.1 in
-    let c = then_passed (cond (eqb k.count 2) (rotary_check k.second k.first.letter 1) (Ok tt)) _ b.1 in
+    let b = then_passed (rotary_check k.first None 0) _ a.1 in
+    let c = then_passed (cond (eqb k.count 2) (rotary_check k.second (Some k.first.letter) 1) (Ok tt)) _ b.1 in
     record {
       counted = demand_passed _ _ _ a.0;
-      first = letter_known k.first 0 0 b.0;
+      first = letter_known k.first None 0 b.0;
       second = second (eqb k.count 2) c.0;
     }
   where
-    second : (t : Bool) → cond t (rotary_check k.second k.first.letter 1) (Ok tt) ≡ Ok tt → t ≡ true → known_letter k.second.letter ≡ true
-    second true e h = letter_known k.second k.first.letter 1 e
+    second : (t : Bool) → cond t (rotary_check k.second (Some k.first.letter) 1) (Ok tt) ≡ Ok tt → t ≡ true → known_letter k.second.letter ≡ true
+    second true e h = letter_known k.second (Some k.first.letter) 1 e
     second false e h = absurd (false≢true h)
 
 -- ---- the job

@@ -301,8 +301,7 @@ numbers_there bytes at (x ∷ l) f s =
     )
 
 -- ---- the job
-module _ (k : Kinematics) (poses : List Float) (cone : Float) (tol : Tolerances)
-    (counted : one_or_two k.count ≡ true) (whole : length poses ≡ 6 * (length poses / 6)) (short : length_of_chain (record_of k) k.count + 8 * length poses + 40 ≤ 65536) where
+module _ (k : Kinematics) (poses : List Float) (cone : Float) (tol : Tolerances) (counted : one_or_two k.count ≡ true) where
   abbrev Job' : List ℕ
   Job' = job_bytes k poses cone tol
 
@@ -346,137 +345,138 @@ module _ (k : Kinematics) (poses : List Float) (cone : Float) (tol : Tolerances)
       let f = length-append (poses_bytes poses) Last in
       omega (arith, a, b, c, e, f)
 
-  at_trailer : trailer Job' ≡ C + 8 * length poses
-  at_trailer = let e = length_of_job in omega (arith, e)
+  module _ (whole : length poses ≡ 6 * (length poses / 6)) (short : length_of_chain (record_of k) k.count + 8 * length poses + 40 ≤ 65536) where
+    at_trailer : trailer Job' ≡ C + 8 * length poses
+    at_trailer = let e = length_of_job in omega (arith, e)
 
-  whole_stands : Stands Job' 0 (chain_bytes (record_of k) k ++ (poses_bytes poses ++ Last))
-  whole_stands = unfold job_bytes in stands_whole Job'
+    whole_stands : Stands Job' 0 (chain_bytes (record_of k) k ++ (poses_bytes poses ++ Last))
+    whole_stands = unfold job_bytes in stands_whole Job'
 
-  chain_stands : Stands Job' 0 (chain_bytes (record_of k) k)
-  chain_stands = stands_left (chain_bytes (record_of k) k) (poses_bytes poses ++ Last) whole_stands
+    chain_stands : Stands Job' 0 (chain_bytes (record_of k) k)
+    chain_stands = stands_left (chain_bytes (record_of k) k) (poses_bytes poses ++ Last) whole_stands
 
-  behind_chain : Stands Job' C (poses_bytes poses ++ Last)
-  behind_chain = stands_right (chain_bytes (record_of k) k) (poses_bytes poses ++ Last) C C (chain_length (record_of k) (record_width k) k counted) (omega arith) whole_stands
+    behind_chain : Stands Job' C (poses_bytes poses ++ Last)
+    behind_chain = stands_right (chain_bytes (record_of k) k) (poses_bytes poses ++ Last) C C (chain_length (record_of k) (record_width k) k counted) (omega arith) whole_stands
 
-  pub poses_stand : Stands Job' C (poses_bytes poses)
-  poses_stand = stands_left (poses_bytes poses) Last behind_chain
+    pub poses_stand : Stands Job' C (poses_bytes poses)
+    poses_stand = stands_left (poses_bytes poses) Last behind_chain
 
-  trailer_stands : Stands Job' (trailer Job') Last
-  trailer_stands = let e = at_trailer in stands_right (poses_bytes poses) Last (8 * length poses) (trailer Job') (poses_length poses) (sym e) behind_chain
+    trailer_stands : Stands Job' (trailer Job') Last
+    trailer_stands = let e = at_trailer in stands_right (poses_bytes poses) Last (8 * length poses) (trailer Job') (poses_length poses) (sym e) behind_chain
 
-  trailer_opened : Stands Job' (trailer Job') (bytes_of 4 0 ++ (bytes_of 4 C ++ (bytes_of 4 N ++ (bytes_of 4 W ++ (number_bytes cone ++ (number_bytes tol.chord ++ number_bytes tol.axis))))))
-  trailer_opened = subst (Stands Job' (trailer Job')) (trailer_parts C N W cone tol) trailer_stands
+    trailer_opened : Stands Job' (trailer Job') (bytes_of 4 0 ++ (bytes_of 4 C ++ (bytes_of 4 N ++ (bytes_of 4 W ++ (number_bytes cone ++ (number_bytes tol.chord ++ number_bytes tol.axis))))))
+    trailer_opened = subst (Stands Job' (trailer Job')) (trailer_parts C N W cone tol) trailer_stands
 
-  -- what the trailer says
-  from_poses : Stands Job' (Trailer.poses_field (trailer Job')) (bytes_of 4 C ++ (bytes_of 4 N ++ (bytes_of 4 W ++ (number_bytes cone ++ (number_bytes tol.chord ++ number_bytes tol.axis)))))
-  from_poses =
-      stands_right (bytes_of 4 0) _ 4 (Trailer.poses_field (trailer Job')) (length_bytes 4 0) refl trailer_opened
+    -- what the trailer says
+    from_poses : Stands Job' (Trailer.poses_field (trailer Job')) (bytes_of 4 C ++ (bytes_of 4 N ++ (bytes_of 4 W ++ (number_bytes cone ++ (number_bytes tol.chord ++ number_bytes tol.axis)))))
+    from_poses =
+        stands_right (bytes_of 4 0) _ 4 (Trailer.poses_field (trailer Job')) (length_bytes 4 0) refl trailer_opened
 
-  from_count : Stands Job' (Trailer.count_field (trailer Job')) (bytes_of 4 N ++ (bytes_of 4 W ++ (number_bytes cone ++ (number_bytes tol.chord ++ number_bytes tol.axis))))
-  from_count = stands_right (bytes_of 4 C) _ 4 (Trailer.count_field (trailer Job')) (length_bytes 4 C) (omega arith) from_poses
+    from_count : Stands Job' (Trailer.count_field (trailer Job')) (bytes_of 4 N ++ (bytes_of 4 W ++ (number_bytes cone ++ (number_bytes tol.chord ++ number_bytes tol.axis))))
+    from_count = stands_right (bytes_of 4 C) _ 4 (Trailer.count_field (trailer Job')) (length_bytes 4 C) (omega arith) from_poses
 
-  from_word : Stands Job' (Trailer.word_field (trailer Job')) (bytes_of 4 W ++ (number_bytes cone ++ (number_bytes tol.chord ++ number_bytes tol.axis)))
-  from_word = stands_right (bytes_of 4 N) _ 4 (Trailer.word_field (trailer Job')) (length_bytes 4 N) (omega arith) from_count
+    from_word : Stands Job' (Trailer.word_field (trailer Job')) (bytes_of 4 W ++ (number_bytes cone ++ (number_bytes tol.chord ++ number_bytes tol.axis)))
+    from_word = stands_right (bytes_of 4 N) _ 4 (Trailer.word_field (trailer Job')) (length_bytes 4 N) (omega arith) from_count
 
-  from_cone : Stands Job' (Trailer.cone_field (trailer Job')) (number_bytes cone ++ (number_bytes tol.chord ++ number_bytes tol.axis))
-  from_cone = stands_right (bytes_of 4 W) _ 4 (Trailer.cone_field (trailer Job')) (length_bytes 4 W) (omega arith) from_word
+    from_cone : Stands Job' (Trailer.cone_field (trailer Job')) (number_bytes cone ++ (number_bytes tol.chord ++ number_bytes tol.axis))
+    from_cone = stands_right (bytes_of 4 W) _ 4 (Trailer.cone_field (trailer Job')) (length_bytes 4 W) (omega arith) from_word
 
-  from_chord : Stands Job' (Trailer.chord_field (trailer Job')) (number_bytes tol.chord ++ number_bytes tol.axis)
-  from_chord = stands_right (number_bytes cone) _ 8 (Trailer.chord_field (trailer Job')) (length_number cone) (omega arith) from_cone
+    from_chord : Stands Job' (Trailer.chord_field (trailer Job')) (number_bytes tol.chord ++ number_bytes tol.axis)
+    from_chord = stands_right (number_bytes cone) _ 8 (Trailer.chord_field (trailer Job')) (length_number cone) (omega arith) from_cone
 
-  from_axis_tolerance : Stands Job' (Trailer.axis_field (trailer Job')) (number_bytes tol.axis)
-  from_axis_tolerance = stands_right (number_bytes tol.chord) _ 8 (Trailer.axis_field (trailer Job')) (length_number tol.chord) (omega arith) from_chord
+    from_axis_tolerance : Stands Job' (Trailer.axis_field (trailer Job')) (number_bytes tol.axis)
+    from_axis_tolerance = stands_right (number_bytes tol.chord) _ 8 (Trailer.axis_field (trailer Job')) (length_number tol.chord) (omega arith) from_chord
 
-  chain_at_0 : (places_in Job').chain ≡ 0
-  unfolding places_in
-  chain_at_0 =
-      whole_read 4 0 Job' (trailer Job') (omega arith) (stands_left (bytes_of 4 0) _ trailer_opened)
+    chain_at_0 : (places_in Job').chain ≡ 0
+    unfolding places_in
+    chain_at_0 =
+        whole_read 4 0 Job' (trailer Job') (omega arith) (stands_left (bytes_of 4 0) _ trailer_opened)
 
-  poses_at-C : (places_in Job').poses ≡ C
-  unfolding places_in
-  poses_at-C = whole_read 4 C Job' (Trailer.poses_field (trailer Job')) (omega (arith, short)) (stands_left (bytes_of 4 C) _ from_poses)
+    poses_at-C : (places_in Job').poses ≡ C
+    unfolding places_in
+    poses_at-C = whole_read 4 C Job' (Trailer.poses_field (trailer Job')) (omega (arith, short)) (stands_left (bytes_of 4 C) _ from_poses)
 
-  count_is-N : (places_in Job').count ≡ N
-  unfolding places_in
-  count_is-N = whole_read 4 N Job' (Trailer.count_field (trailer Job')) (omega (arith, short)) (stands_left (bytes_of 4 N) _ from_count)
+    count_is-N : (places_in Job').count ≡ N
+    unfolding places_in
+    count_is-N = whole_read 4 N Job' (Trailer.count_field (trailer Job')) (omega (arith, short)) (stands_left (bytes_of 4 N) _ from_count)
 
-  word_small : W < 2
-  unfolding word_of
-  word_small = go (rest_nought k.first.rest && second_nought k)
-    where
-      go : (t : Bool) → cond t 0 1 < 2
-      go true = lit≤ tt
-      go false = lit≤ tt
+    word_small : W < 2
+    unfolding word_of
+    word_small = go (rest_nought k.first.rest && second_nought k)
+      where
+        go : (t : Bool) → cond t 0 1 < 2
+        go true = lit≤ tt
+        go false = lit≤ tt
 
-  word_is-W : (places_in Job').word ≡ W
-  unfolding places_in
-  word_is-W = let h = word_small in whole_read 4 W Job' (Trailer.word_field (trailer Job')) (omega (arith, h)) (stands_left (bytes_of 4 W) _ from_word)
+    word_is-W : (places_in Job').word ≡ W
+    unfolding places_in
+    word_is-W = let h = word_small in whole_read 4 W Job' (Trailer.word_field (trailer Job')) (omega (arith, h)) (stands_left (bytes_of 4 W) _ from_word)
 
-  -- so the reader takes records as long as those that were written
-  records_alike : word_length (places_in Job').word ≡ record_of k
-  unfolding record_of
-  records_alike = ap word_length word_is-W
+    -- so the reader takes records as long as those that were written
+    records_alike : word_length (places_in Job').word ≡ record_of k
+    unfolding record_of
+    records_alike = ap word_length word_is-W
 
-  -- records of 72 bytes are written where every rest angle is +0.0
-  rests_nought : ChainFits k → record_of k ≡ 72 → RestsNought k
-  unfolding record_of word_length word_of second_nought
-  rests_nought f e = by_rests (rest_nought k.first.rest) (cond (eqb k.count 2) (rest_nought k.second.rest) true) refl refl e
-    where
-      by_rests : (x y : Bool) → rest_nought k.first.rest ≡ x → cond (eqb k.count 2) (rest_nought k.second.rest) true ≡ y → records (eqb (word (x && y)) 1) ≡ 72 → RestsNought k
-      by_rests true true p q h = record {
-        first = nought_there k.first.rest f.first.rest p;
-        second = λ two. nought_there k.second.rest f.second.rest (rw two at q);
-      }
-      by_rests true false p q h = absurd (omega (arith, h))
-      by_rests false y p q h = absurd (omega (arith, h))
+    -- records of 72 bytes are written where every rest angle is +0.0
+    rests_nought : ChainFits k → record_of k ≡ 72 → RestsNought k
+    unfolding record_of word_length word_of second_nought
+    rests_nought f e = by_rests (rest_nought k.first.rest) (cond (eqb k.count 2) (rest_nought k.second.rest) true) refl refl e
+      where
+        by_rests : (x y : Bool) → rest_nought k.first.rest ≡ x → cond (eqb k.count 2) (rest_nought k.second.rest) true ≡ y → records (eqb (word (x && y)) 1) ≡ 72 → RestsNought k
+        by_rests true true p q h = record {
+          first = nought_there k.first.rest f.first.rest p;
+          second = λ two. nought_there k.second.rest f.second.rest (rw two at q);
+        }
+        by_rests true false p q h = absurd (omega (arith, h))
+        by_rests false y p q h = absurd (omega (arith, h))
 
-  chain_stands_there : Stands Job' (places_in Job').chain (chain_bytes (record_of k) k)
-  chain_stands_there = rw chain_at_0 chain_stands
+    chain_stands_there : Stands Job' (places_in Job').chain (chain_bytes (record_of k) k)
+    chain_stands_there = rw chain_at_0 chain_stands
 
-  sized_good : sized (length Job') ≡ true
-  unfolding sized
-  sized_good =
-      let e = length_of_job in
-      let a : 40 ≤ length Job' = omega (arith, e) in
-      let b : length Job' ≤ 65536 = omega (arith, e, short) in
-      rw (le-ltb (length Job') 40 a, le-leb (length Job') 65536 b)
+    sized_good : sized (length Job') ≡ true
+    unfolding sized
+    sized_good =
+        let e = length_of_job in
+        let a : 40 ≤ length Job' = omega (arith, e) in
+        let b : length Job' ≤ 65536 = omega (arith, e, short) in
+        rw (le-ltb (length Job') 40 a, le-leb (length Job') 65536 b)
 
-  placed_good : placed (record_of k) Job' (places_in Job') k.count ≡ Ok tt
-  unfolding placed chain_end poses_end apart
-  placed_good =
-      let e = at_trailer in
-      let a : 0 < trailer Job' = omega (arith, e) in
-      let b : 0 + C ≤ trailer Job' = omega (arith, e) in
-      let c : C + 48 * N ≤ trailer Job' = omega (arith, e, whole) in
-      let d : 0 + C ≤ C = omega arith in
-      rw (chain_at_0, poses_at-C, count_is-N, word_is-W, lt-ltb W 2 word_small, lt-ltb 0 (trailer Job') a, counted, le-leb (0 + C) (trailer Job') b, le-leb (C + 48 * N) (trailer Job') c, le-leb (0 + C) C d)
-      (go (eqb N 0) (leb (C + 48 * N) 0))
-    where
-      go : (x y : Bool) → then (demand (x || y || true) Cause.Malformed (Trailer.poses_field (trailer Job'))) (Ok tt) ≡ Ok tt
-      go true y = refl
-      go false true = refl
-      go false false = refl
+    placed_good : placed (record_of k) Job' (places_in Job') k.count ≡ Ok tt
+    unfolding placed chain_end poses_end apart
+    placed_good =
+        let e = at_trailer in
+        let a : 0 < trailer Job' = omega (arith, e) in
+        let b : 0 + C ≤ trailer Job' = omega (arith, e) in
+        let c : C + 48 * N ≤ trailer Job' = omega (arith, e, whole) in
+        let d : 0 + C ≤ C = omega arith in
+        rw (chain_at_0, poses_at-C, count_is-N, word_is-W, lt-ltb W 2 word_small, lt-ltb 0 (trailer Job') a, counted, le-leb (0 + C) (trailer Job') b, le-leb (C + 48 * N) (trailer Job') c, le-leb (0 + C) C d)
+        (go (eqb N 0) (leb (C + 48 * N) 0))
+      where
+        go : (x y : Bool) → then (demand (x || y || true) Cause.Malformed (Trailer.poses_field (trailer Job'))) (Ok tt) ≡ Ok tt
+        go true y = refl
+        go false true = refl
+        go false false = refl
 
-  module _ (fit-chain : ChainFits k) (fit-poses : FitUpTo (length poses) poses) (fit-cone : T (fits binary64 cone)) (fit-chord : T (fits binary64 tol.chord)) (fit-axis : T (fits binary64 tol.axis))
-      (first-letter : known_letter k.first.letter ≡ true) (second-letter : eqb k.count 2 ≡ true → known_letter k.second.letter ≡ true) where
-    pub read_back : read_job Job' ≡ Ok (job_of k poses cone tol)
-    unfolding read_job job_from job_fields job_at job_of plain
-    read_back =
-        rw (
-          records_alike,
-          count_there (record_of k) (record_width k) Job' (places_in Job') k counted chain_stands_there,
-          sized_good,
-          placed_good,
-          chain_part_there (record_of k) (record_width k) Job' (places_in Job') k counted chain_stands_there first-letter second-letter,
-          chain_there (record_of k) (record_width k) Job' (places_in Job') k counted chain_stands_there fit-chain (rests_nought fit-chain),
-          chain_at_0,
-          poses_at-C,
-          count_is-N,
-          number_read cone Job' (Trailer.cone_field (trailer Job')) fit-cone (stands_left (number_bytes cone) _ from_cone),
-          number_read tol.chord Job' (Trailer.chord_field (trailer Job')) fit-chord (stands_left (number_bytes tol.chord) _ from_chord),
-          number_read tol.axis Job' (Trailer.axis_field (trailer Job')) fit-axis from_axis_tolerance,
-        )
+    module _ (fit-chain : ChainFits k) (fit-poses : FitUpTo (length poses) poses) (fit-cone : T (fits binary64 cone)) (fit-chord : T (fits binary64 tol.chord)) (fit-axis : T (fits binary64 tol.axis))
+        (first-letter : known_letter k.first.letter ≡ true) (second-letter : eqb k.count 2 ≡ true → known_letter k.second.letter ≡ true) where
+      pub read_back : read_job Job' ≡ Ok (job_of k poses cone tol)
+      unfolding read_job job_from job_fields job_at job_of plain
+      read_back =
+          rw (
+            records_alike,
+            count_there (record_of k) (record_width k) Job' (places_in Job') k counted chain_stands_there,
+            sized_good,
+            placed_good,
+            chain_part_there (record_of k) (record_width k) Job' (places_in Job') k counted chain_stands_there first-letter second-letter,
+            chain_there (record_of k) (record_width k) Job' (places_in Job') k counted chain_stands_there fit-chain (rests_nought fit-chain),
+            chain_at_0,
+            poses_at-C,
+            count_is-N,
+            number_read cone Job' (Trailer.cone_field (trailer Job')) fit-cone (stands_left (number_bytes cone) _ from_cone),
+            number_read tol.chord Job' (Trailer.chord_field (trailer Job')) fit-chord (stands_left (number_bytes tol.chord) _ from_chord),
+            number_read tol.axis Job' (Trailer.axis_field (trailer Job')) fit-axis from_axis_tolerance,
+          )
 
-    pub poses_back : poses_of Job' (job_of k poses cone tol) ≡ poses
-    unfolding poses_of job_of
-    poses_back = ap (λ (n : ℕ). numbers_at n Job' C) (sym whole) ∙ numbers_there Job' C poses fit-poses poses_stand
+      pub poses_back : poses_of Job' (job_of k poses cone tol) ≡ poses
+      unfolding poses_of job_of
+      poses_back = ap (λ (n : ℕ). numbers_at n Job' C) (sym whole) ∙ numbers_there Job' C poses fit-poses poses_stand

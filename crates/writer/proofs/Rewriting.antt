@@ -6,7 +6,7 @@ use mathlib.Core.Bool.{Bool, true, false, cond, ◌&&◌}
 use mathlib.Core.List.{List, [], ◌++◌}
 use lib.Dec.{eqb}
 use lib.Ieee.{Float}
-use Rattle.std.specs.Prelude.{Ok}
+use Rattle.std.specs.Prelude.{None, Ok, Some}
 use Rattle.refusal.specs.declared.Cause.{Cause}
 use Rattle.chain.specs.Checked.{Checked}
 use Rattle.chain.specs.declared.Kinematics.{Kinematics}
@@ -49,10 +49,10 @@ module _ (k : Kinematics) where
   unfolding chain_check second_check plain
   same_check =
       ap
-      (λ (c : Checked). then (demand (one_or_two k.count) Cause.RotaryCount 0) (then (rotary_check k.first 0 0) (then c (then (demand (all_finite k.spindle_axis) Cause.ChainNotFinite 0) (demand (has_direction k.spindle_axis) Cause.SpindleZero 0)))))
+      (λ (c : Checked). then (demand (one_or_two k.count) Cause.RotaryCount 0) (then (rotary_check k.first None 0) (then c (then (demand (all_finite k.spindle_axis) Cause.ChainNotFinite 0) (demand (has_direction k.spindle_axis) Cause.SpindleZero 0)))))
       (go (eqb k.count 2))
     where
-      go : (t : Bool) → cond t (rotary_check (cond t k.second no_rotary) k.first.letter 1) (Ok tt) ≡ cond t (rotary_check k.second k.first.letter 1) (Ok tt)
+      go : (t : Bool) → cond t (rotary_check (cond t k.second no_rotary) (Some k.first.letter) 1) (Ok tt) ≡ cond t (rotary_check k.second (Some k.first.letter) 1) (Ok tt)
       go true = refl
       go false = refl
 

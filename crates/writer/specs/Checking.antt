@@ -71,7 +71,7 @@ ReadBack k poses cone tol room =
     → (read_job (job_bytes k poses cone tol) ≡ Ok (job_of k poses cone tol)) × (poses_of (job_bytes k poses cone tol) (job_of k poses cone tol) ≡ poses)
 
 abbrev pub tolerances_of : Job → Tolerances
-tolerances_of j = record { chord = j.chord; axis = j.axis }
+tolerances_of j = j.tol
 
 -- what is read from a file is written again, to the bytes of the file
 abbrev pub SameFile : Result Job Refusal → (file : List ℕ) → (room : ℕ) → Type 0

@@ -128,7 +128,6 @@ job_of k poses cone tol = record {
   poses_at = length_of_chain (record_of k) k.count;
   poses = length poses / 6;
   cone = cone;
-  chord = tol.chord;
-  axis = tol.axis;
+  tol = tol;
   chain = plain k;
 }

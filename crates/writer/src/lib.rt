@@ -16,7 +16,8 @@ use refusal::Refusal;
 use writing::put_job;
 
 // A refusal keeps the lent bytes, and those behind a job stay. What the reader gets from the job is what was given, and
-// is written again to the same bytes.
+// is written again to the same bytes. No struct of chain, poses, cone and tolerances: it would be made here for two
+// calls, and each clause and definition would take it apart again.
 pub fn write_job(
     k: Kinematics,
     poses: &[f64],

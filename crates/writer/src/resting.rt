@@ -1,8 +1,10 @@
-// The trailer's word, by the rest angles of the chain, and how long a rotary's record is with it.
-ghost use Rattle.std.specs.Prelude.{◌≤◌, ◌≡◌};
+// The kind of a job's records, by the rest angles of its chain; the trailer's word is that of the kind.
+ghost use Rattle.std.specs.Prelude.{◌≡◌};
+ghost use Rattle.job.specs.JobBytes.{bytes_in};
 ghost use Rattle.writer.specs.Writing as S;
 
 use chain::Kinematics;
+use job::RecordKind;
 
 // By its bits: -0.0 is not +0.0, and must come back.
 #[tactic(auto, unfolding(crate::specs::Writing::rest_nought))]
@@ -19,22 +21,14 @@ fn second_nought(k: Kinematics) -> bool
     k.count != 2 || rest_nought(k.second.rest)
 }
 
-// 0 where every rest angle of the chain is +0.0, else 1.
-#[tactic(auto, unfolding(crate::specs::Writing::word_of))]
-pub fn word_of(k: Kinematics) -> u32
-    ensures { result ≡ S.word_of k }
+// Without a rest angle where every one of the chain is +0.0.
+#[tactic(auto, unfolding(crate::specs::Writing::record_of, crate::specs::Writing::word_of, job::specs::JobBytes::word_length, job::specs::JobBytes::bytes_in))]
+pub fn kind_of(k: Kinematics) -> RecordKind
+    ensures { bytes_in result ≡ S.record_of k }
 {
     if rest_nought(k.first.rest) && second_nought(k) {
-        0
+        RecordKind::NoRest
     } else {
-        1
+        RecordKind::WithRest
     }
-}
-
-#[tactic(auto, unfolding(crate::specs::Writing::record_of))]
-pub fn record_of(k: Kinematics) -> usize
-    ensures length { result ≡ S.record_of k }
-    ensures most { result ≤ 80 }
-{
-    job::word_length(word_of(k))
 }

@@ -1,47 +1,50 @@
-// The parts of a job, put into lent bytes at an offset.
-ghost use Rattle.std.specs.Prelude.{◌+◌, ◌*◌, ◌/◌, ◌≤◌, ◌≡◌, true, length};
+// The parts of a job, one behind the other on a page.
+ghost use Rattle.std.specs.Prelude.{◌≤◌, ◌≡◌, true, length};
 ghost use Rattle.chain.specs.Check.{one_or_two};
-ghost use Rattle.job.specs.Spelling.{written};
+ghost use Rattle.job.specs.JobBytes.{bytes_in};
+ghost use Rattle.job.specs.Spelling.{Fits, Put, written};
 ghost use Rattle.writer.specs.Checking.{length_of};
 ghost use Rattle.writer.specs.Writing as S;
 
-use crate::resting::{record_of, word_of};
+use crate::resting::kind_of;
 use chain::{Carrier, Kinematics, RotaryJoint, RotaryLimits};
 use geometry::Vec3;
+use job::{Page, RecordKind};
 use middle::Tolerances;
 
 // ---- numbers
 // The lowest four bytes of a whole number, the lowest first.
-fn put_four(x: u64, out: &mut [u8], at: usize)
-    requires { at + 4 ≤ length out.old }
-    ensures { out.new ≡ written out.old at (S.bytes_of 4 x) }
+fn put_four(page: &mut Page<'_>, x: u64)
+    requires { Fits page.old (S.bytes_of 4 x) }
+    ensures { Put page.old (S.bytes_of 4 x) page.new }
 {
-    job::put_bytes(&x.to_le_bytes()[..4], out, at);
+    page.put(&x.to_le_bytes()[..4]);
 }
 
-fn put_number(x: f64, out: &mut [u8], at: usize)
-    requires { at + 8 ≤ length out.old }
-    ensures { out.new ≡ written out.old at (S.number_bytes x) }
+fn put_number(page: &mut Page<'_>, x: f64)
+    requires { Fits page.old (S.number_bytes x) }
+    ensures { Put page.old (S.number_bytes x) page.new }
 {
-    job::put_bytes(&job::bits_of(x).to_le_bytes(), out, at);
+    page.put(&job::bits_of(x).to_le_bytes());
 }
 
-fn put_vector(v: Vec3, out: &mut [u8], at: usize)
-    requires { at + 24 ≤ length out.old }
-    ensures { out.new ≡ written out.old at (S.vector_bytes v) }
+#[tactic(auto, unfolding(crate::specs::Writing::vector_bytes))]
+fn put_vector(page: &mut Page<'_>, v: Vec3)
+    requires { Fits page.old (S.vector_bytes v) }
+    ensures { Put page.old (S.vector_bytes v) page.new }
 {
-    put_number(v.x, out, at);
-    put_number(v.y, out, at + 8);
-    put_number(v.z, out, at + 16);
+    put_number(page, v.x);
+    put_number(page, v.y);
+    put_number(page, v.z);
 }
 
 // ---- a rotary
 // Three bytes, then five zeros.
-fn put_head(a: u8, b: u8, c: u8, out: &mut [u8], at: usize)
-    requires { at + 8 ≤ length out.old }
-    ensures { out.new ≡ written out.old at (S.head_bytes a b c) }
+fn put_head(page: &mut Page<'_>, a: u8, b: u8, c: u8)
+    requires { Fits page.old (S.head_bytes a b c) }
+    ensures { Put page.old (S.head_bytes a b c) page.new }
 {
-    job::put_bytes(&[a, b, c, 0, 0, 0, 0, 0], out, at);
+    page.put(&[a, b, c, 0, 0, 0, 0, 0]);
 }
 
 // A byte of the file, so it is written here and not taken from the order of the variants.
@@ -60,7 +63,8 @@ fn limits_byte(limits: Option<RotaryLimits>) -> u8
     limits.is_some() as u8
 }
 
-// The lower limit, +0.0 where there is none; and the upper one.
+// The lower limit, +0.0 where there is none; and the upper one. Each by itself, since what stands for no limits is two
+// zeros of the file and no `RotaryLimits`: a default of that would be limits that let nothing turn.
 fn lower(limits: Option<RotaryLimits>) -> f64
     ensures { result ≡ S.lower limits }
 {
@@ -74,92 +78,75 @@ fn upper(limits: Option<RotaryLimits>) -> f64
 }
 
 // The rest angle, in a record that has one.
-fn put_rest(w: usize, rest: f64, out: &mut [u8], at: usize)
-    requires { at + length (S.rest_bytes w rest) ≤ length out.old }
-    ensures { out.new ≡ written out.old at (S.rest_bytes w rest) }
+#[tactic(auto, using(job::proofs::Written::put_none), unfolding(crate::specs::Writing::rest_bytes, job::specs::JobBytes::bytes_in))]
+fn put_rest(page: &mut Page<'_>, kind: RecordKind, rest: f64)
+    requires { Fits page.old (S.rest_bytes (bytes_in kind) rest) }
+    ensures { Put page.old (S.rest_bytes (bytes_in kind) rest) page.new }
 {
-    if w == 80 {
-        put_number(rest, out, at);
+    match kind {
+        RecordKind::NoRest => (),
+        RecordKind::WithRest => put_number(page, rest),
     }
 }
 
-#[tactic(auto, using(crate::proofs::Texts::wide))]
-fn put_rotary(w: usize, j: RotaryJoint, out: &mut [u8], at: usize)
-    requires { S.Width w × (at + w ≤ length out.old) }
-    ensures { out.new ≡ written out.old at (S.rotary_bytes w j) }
+fn put_rotary(page: &mut Page<'_>, kind: RecordKind, j: RotaryJoint)
+    requires { Fits page.old (S.rotary_bytes (bytes_in kind) j) }
+    ensures { Put page.old (S.rotary_bytes (bytes_in kind) j) page.new }
 {
     let carrier = j.carrier;
     let limits = j.limits;
-    let b = carrier_byte(carrier);
-    let c = limits_byte(limits);
-    let min = lower(limits);
-    let max = upper(limits);
-    put_head(j.letter, b, c, out, at);
-    put_vector(j.axis, out, at + 8);
-    put_vector(j.pivot, out, at + 32);
-    put_number(min, out, at + 56);
-    put_number(max, out, at + 64);
-    put_rest(w, j.rest, out, at + 72);
+    put_head(page, j.letter, carrier_byte(carrier), limits_byte(limits));
+    put_vector(page, j.axis);
+    put_vector(page, j.pivot);
+    put_number(page, lower(limits));
+    put_number(page, upper(limits));
+    put_rest(page, kind, j.rest);
 }
 
 // ---- the chain
-// Answers where it ends.
-#[tactic(auto, using(crate::proofs::Texts::second_room))]
-fn put_second(w: usize, k: Kinematics, out: &mut [u8], at: usize) -> usize
-    requires { S.Width w × (at + length (S.second_bytes w k) ≤ length out.old) }
-    ensures end { result ≡ at + length (S.second_bytes w k) }
-    ensures lent { out.new ≡ written out.old at (S.second_bytes w k) }
+#[tactic(auto, using(job::proofs::Written::put_none), unfolding(crate::specs::Writing::second_bytes))]
+fn put_second(page: &mut Page<'_>, kind: RecordKind, k: Kinematics)
+    requires { Fits page.old (S.second_bytes (bytes_in kind) k) }
+    ensures { Put page.old (S.second_bytes (bytes_in kind) k) page.new }
 {
     if k.count == 2 {
-        put_rotary(w, k.second, out, at);
-        return at + w;
+        put_rotary(page, kind, k.second);
     }
-    at
 }
 
-#[tactic(auto, using(job::proofs::Written::length_put, crate::proofs::Texts::long_chain))]
-fn put_chain(w: usize, k: Kinematics, out: &mut [u8]) -> usize
-    requires { S.Width w × (length (S.chain_bytes w k) ≤ length out.old) }
-    ensures end { result ≡ length (S.chain_bytes w k) }
-    ensures lent { out.new ≡ written out.old 0 (S.chain_bytes w k) }
+#[tactic(auto, unfolding(crate::specs::Writing::chain_bytes))]
+fn put_chain(page: &mut Page<'_>, kind: RecordKind, k: Kinematics)
+    requires { Fits page.old (S.chain_bytes (bytes_in kind) k) }
+    ensures { Put page.old (S.chain_bytes (bytes_in kind) k) page.new }
 {
-    put_head(k.count, 0, 0, out, 0);
-    put_rotary(w, k.first, out, 8);
-    let end = put_second(w, k, out, 8 + w);
-    put_vector(k.spindle_axis, out, end);
-    end + 24
+    put_head(page, k.count, 0, 0);
+    put_rotary(page, kind, k.first);
+    put_second(page, kind, k);
+    put_vector(page, k.spindle_axis);
 }
 
 // ---- poses and trailer
-fn put_poses(poses: &[f64], out: &mut [u8], at: usize)
-    requires { at + 8 * length poses.now ≤ length out.old }
-    ensures { out.new ≡ written out.old at (S.poses_bytes poses.now) }
+fn put_poses(page: &mut Page<'_>, poses: &[f64])
+    requires { Fits page.old (S.poses_bytes poses.now) }
+    ensures { Put page.old (S.poses_bytes poses.now) page.new }
 {
-    for (i, x) in poses.iter().enumerate() {
-        put_number(*x, out, at + i * 8);
+    for x in poses {
+        put_number(page, *x);
     }
 }
 
 // `chain` is the chain's length: the poses begin at its end, also where there are none.
-fn put_trailer(
-    chain: u64,
-    count: u64,
-    word: u64,
-    cone: f64,
-    tol: Tolerances,
-    out: &mut [u8],
-    at: usize,
-)
-    requires { at + 40 ≤ length out.old }
-    ensures { out.new ≡ written out.old at (S.trailer_bytes chain count word cone tol) }
+fn put_trailer(page: &mut Page<'_>, chain: u64, count: u64, word: u64, cone: f64, tol: Tolerances)
+    requires { Fits page.old (S.trailer_bytes chain count word cone tol) }
+    ensures { Put page.old (S.trailer_bytes chain count word cone tol) page.new }
 {
-    put_four(0, out, at);
-    put_four(chain, out, at + 4);
-    put_four(count, out, at + 8);
-    put_four(word, out, at + 12);
-    put_number(cone, out, at + 16);
-    put_number(tol.chord, out, at + 24);
-    put_number(tol.axis, out, at + 32);
+    put_four(page, 0);
+    put_four(page, chain);
+    put_four(page, count);
+    put_four(page, word);
+    put_number(page, cone);
+    put_number(page, tol.chord);
+    put_number(page, tol.axis);
 }
 
 // Answers how many bytes the job has.
@@ -168,12 +155,12 @@ pub fn put_job(k: Kinematics, poses: &[f64], cone: f64, tol: Tolerances, out: &m
     ensures end { result ≡ length_of k poses.now }
     ensures lent { out.new ≡ written out.old 0 (S.job_bytes k poses.now cone tol) }
 {
-    let word = word_of(k);
-    let w = record_of(k);
-    let chain = put_chain(w, k, out);
-    put_poses(poses, out, chain);
-    let end = chain + poses.len() * 8;
-    let count = poses.len() / 6;
-    put_trailer(chain as u64, count as u64, word as u64, cone, tol, out, end);
-    end + 40
+    let mut page = Page { out, at: 0 };
+    let kind = kind_of(k);
+    put_chain(&mut page, kind, k);
+    let chain = page.at as u64;
+    put_poses(&mut page, poses);
+    let count = poses.len() as u64 / 6;
+    put_trailer(&mut page, chain, count, kind.word() as u64, cone, tol);
+    page.at
 }

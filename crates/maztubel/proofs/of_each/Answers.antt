@@ -1,21 +1,26 @@
 use native.Mathlib.Omega.{arith}
-use mathlib.Core.Path.{sym, ◌∙◌}
+use mathlib.Core.Path.{◌≡◌, sym, ◌∙◌}
 use lib.ListN.{length-map}
 use lib.Ieee.{nan}
-use borrow.Author.Tests.{eq-eqb, ne_eqb}
+use borrow.Author.Tests.{not-true, not-false}
 use Rattle.std.specs.Prelude.{None}
-use Rattle.maztubel.proofs.Laws.{told_map, written_or, any_told, number_lengths, number_refused, number_served, writing_start, writing_step, writing_end}
+use Rattle.std.proofs.Common.{Err, rules, eqb-true}
+use Rattle.lists.proofs.Tests.{is}
+use Rattle.chain.specs.Checked.{Checked}
+use Rattle.chain.proofs.Passing.{demand_passed}
+use Rattle.maztubel.proofs.Demanded.{demand_refused}
+use Rattle.maztubel.proofs.Laws.{told_map, written_or, any_told, number_refused, number_served, writing_start, writing_step, writing_end}
 use Rattle.maztubel.proofs.of_each.Goals as goal
 
-pub returns-then-xs-answers-clause-number : goal.returns-then-xs-answers-clause-number
-returns-then-xs-answers-clause-number g c = c.number.ensures ∙ number_lengths _ _ (ne_eqb _ _ c.if-xs-answers.true)
-
-pub returns-then-any_refused-clause-number : goal.returns-then-any_refused-clause-number
-returns-then-any_refused-clause-number g c =
-    c.number-then-any_refused.ensures ∙ number_refused _ _ (eq-eqb _ _ c.if-xs-answers.false) (sym (any_told _ c.args.xs.now) ∙ sym c.any_refused.ensures ∙ c.if-any_refused.true)
+pub returns-in_err-demand-2-clause-number : goal.returns-in_err-demand-2-clause-number
+returns-in_err-demand-2-clause-number g c =
+    let e : ◌≡◌ {A = Checked} c.from_residual-in_err-demand-2.result (Err c.in_err-demand-2.field-0.0) = search rules in
+    let same = demand_passed _ _ _ (is c.demand.ensures c.in_ok-demand.was) in
+    let d = demand_refused _ _ _ (is c.demand-2.ensures c.in_err-demand-2.was) in
+    rw (e, d.1) (number_refused _ _ same (sym (any_told _ c.args.xs.now) ∙ is c.any_refused.ensures (not-false _ d.0)))
 
 pub loop-i-init : goal.loop-i-init
-loop-i-init g c = writing_start (simp length-map) (sym c.if-xs-answers.false)
+loop-i-init g c = writing_start (simp length-map) (sym (eqb-true _ _ (demand_passed _ _ _ (is c.demand.ensures c.in_ok-demand.was))))
 
 pub loop-i-preserved : goal.loop-i-preserved
 loop-i-preserved g c =
@@ -23,7 +28,10 @@ loop-i-preserved g c =
     writing_step None nan (omega arith) c.loop-i.invariant (rw (← told, ← c.answer.ensures) (c.unwrap_or.ensures ∙ written_or c.answer.result _))
 
 pub returns : goal.returns
-returns g c = record {
-  number = number_served _ _ (eq-eqb _ _ c.if-xs-answers.false) (sym (any_told _ c.args.xs.now) ∙ sym c.any_refused.ensures ∙ c.if-any_refused.false);
-  lent = writing_end (omega arith) c.loop-i.invariant;
-}
+returns g c =
+    let same = demand_passed _ _ _ (is c.demand.ensures c.in_ok-demand.was) in
+    let none = not-true _ (demand_passed _ _ _ (is c.demand-2.ensures c.in_ok-demand-2.was)) in
+    record {
+      number = number_served _ _ same (sym (any_told _ c.args.xs.now) ∙ is c.any_refused.ensures none);
+      lent = writing_end (omega arith) c.loop-i.invariant;
+    }

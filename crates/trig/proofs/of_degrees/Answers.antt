@@ -1,14 +1,16 @@
 -- `trig::of_degrees` meets its contract. Assumes nothing.
-use Rattle.std.proofs.Common.{T, sym, ◌∙◌, subst}
+use Rattle.std.proofs.Common.{◌≡◌, T, sym, ◌∙◌, subst, rules}
 use Rattle.trig.specs.Degrees.{TurnRight}
+use Rattle.trig.specs.DegreeSteps.{degree_pair, sine_degrees, cosine_degrees}
+use Rattle.trig.proofs.Choices.{then_is}
 use Rattle.trig.proofs.DegreeLaws.{pair_answer, pair_served, pair_refused}
 use Rattle.trig.proofs.of_degrees.Goals as goal
 
-pub pair_in_degrees-p-requires : goal.pair_in_degrees-p-requires
-pair_in_degrees-p-requires c = sym c.turnable.ensures ∙ c.if-turnable.true
-
-pub returns-then-turnable : goal.returns-then-turnable
-returns-then-turnable c = let e = pair_served c.args.x c.pair_in_degrees-p.result (sym c.turnable.ensures ∙ c.if-turnable.true) c.pair_in_degrees-p.ensures.0 c.pair_in_degrees-p.ensures.1 in record { name = e; right = subst (TurnRight c.args.x) (sym e) (pair_answer c.args.x ((subst T (sym c.well_formed.0.1) tt))) }
-
-pub returns-else-turnable : goal.returns-else-turnable
-returns-else-turnable c = let e = pair_refused c.args.x (sym c.turnable.ensures ∙ c.if-turnable.false) in record { name = e; right = subst (TurnRight c.args.x) (sym e) (pair_answer c.args.x ((subst T (sym c.well_formed.0.1) tt))) }
+pub returns : goal.returns
+returns c =
+    let x = c.args.x in
+    let e =
+    then_is c.then.result c.turnable.result _ (degree_pair x) c.then.ensures.variant c.then.ensures.some
+    (λ p h t. let s : p.sine ≡ sine_degrees x = search rules in let v : p.cosine ≡ cosine_degrees x = search rules in pair_served x p (sym c.turnable.ensures ∙ t) s v)
+    (λ f. pair_refused x (sym c.turnable.ensures ∙ f)) in
+    record { name = e; right = subst (TurnRight x) (sym e) (pair_answer x ((subst T (sym c.well_formed.0.1) tt))) }

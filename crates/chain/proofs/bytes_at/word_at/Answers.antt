@@ -1,7 +1,6 @@
-use Rattle.std.proofs.Common.{arith, add-zero}
-use Rattle.chain.specs.Bytes.{little_endian}
+use mathlib.Core.Path.{◌∙◌}
+use Rattle.chain.proofs.Bytes.{chunk_word}
 use Rattle.chain.proofs.bytes_at.word_at.Goals as goal
 
 pub returns : goal.returns
-unfolding little_endian
-returns c = rw (add-zero c.args.at) (omega (arith, c.from_le_bytes.ensures))
+returns c = c.from_le_bytes.ensures ∙ chunk_word _ _ _ (rw c.unwrap.ensures at c.first_chunk.ensures.cases).same

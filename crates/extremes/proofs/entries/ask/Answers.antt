@@ -14,10 +14,8 @@ returns-in_err-ask_check c =
     let all = promised c.args.joints.now c.args.summary.now c.args.rotary c.args.angle (rw (p.1, p.2, e)) in
     record { answer = all.0; read = all.1.0; skipped = all.1.1 }
 
-pub first_above-requires : goal.first_above-requires
-first_above-requires c =
-    let l = ask_lengths _ _ _ _ (is c.ask_check.ensures c.in_ok-ask_check.was) in
-    (omega arith, omega (arith, l))
+pub invariant_of-path : goal.invariant_of-path
+invariant_of-path c = let l = ask_lengths _ _ _ _ (is c.ask_check.ensures c.in_ok-ask_check.was) in record { grouped = omega (arith, l) }
 
 pub returns : goal.returns
 unfolding ask_of

@@ -1,3 +1,4 @@
+use Rattle.geometry.specs.Vector.{norm}
 use Rattle.geometry.specs.Direction.{unit_direction}
 use Rattle.std.proofs.lemmas.Bool.{not_from_true}
 use Rattle.std.proofs.lemmas.Bool.{not_from_false}
@@ -12,5 +13,5 @@ unfolding unit_direction
 returns-then-tiny c = rw (rw c.all_finite.ensures at (not_from_true _ c.if-not-all_finite.false), rw c.tiny.ensures at c.if-tiny.true)
 
 pub returns : goal.returns
-unfolding unit_direction
-returns c = rw (c.with_length.ensures, c.quick_root-len.ensures, c.dot.ensures, rw c.all_finite.ensures at (not_from_true _ c.if-not-all_finite.false), rw c.tiny.ensures at c.if-tiny.false)
+unfolding unit_direction norm
+returns c = rw (c.with_length.ensures, c.norm.ensures, rw c.all_finite.ensures at (not_from_true _ c.if-not-all_finite.false), rw c.tiny.ensures at c.if-tiny.false)

@@ -24,4 +24,4 @@ returns c =
       | then-s-2 w ↦ rw (w.result-is, w.joints_within.ensures, w.if-s-2.true)
       | else-s-2 w ↦ rw (w.result-is, w.if-s-2.false)
     ] in
-    rw (finite, within, c.max.ensures, c.turns_within.ensures, c.angle_of.ensures, larger_is)
+    rw (finite, within, c.max.ensures, c.turns_within.ensures, c.angle.ensures, larger_is)

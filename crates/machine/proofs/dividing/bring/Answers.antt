@@ -1,11 +1,12 @@
-use Rattle.machine.proofs.Bringing.{bringing_start, bringing_step, bringing_end}
+use mathlib.Core.Path.{refl}
+use Rattle.machine.proofs.Bringing.{brought}
 use Rattle.machine.proofs.dividing.bring.Goals as goal
 
-pub loop-j-init : goal.loop-j-init
-loop-j-init c = bringing_start _ _ _ _ c.requires
-
-pub loop-j-preserved : goal.loop-j-preserved
-loop-j-preserved c = bringing_step _ _ _ _ c.loop-j.invariant c.loop-j-test.true c.item_at-t.ensures c.put_item.ensures.poses c.put_item.ensures.joints
-
 pub returns : goal.returns
-returns c = let all = bringing_end _ _ _ _ c.loop-j.invariant c.loop-j-test.false in record { first = all.0; rest = all.1 }
+returns c =
+    let all = brought _ _ _ _ c.requires.0 c.requires.1 c.args.out.now.poses_long c.args.out.now.joints_long c.copy_within.ensures.after c.copy_within-2.ensures.after in
+    record {
+      same = record { same_poses = refl; same_joints = refl; as_much = refl; long_poses = c.copy_within.ensures.len; long_joints = c.copy_within-2.ensures.len };
+      first = all.0;
+      rest = all.1;
+    }

@@ -9,7 +9,8 @@ use Rattle.machine.proofs.dividing.divide_given.Goals as goal
 pub returns : goal.returns
 returns c =
     let whole = c.args.given.now.joints_whole in
-    let all = copied_joints _ _ _ _ _ c.args.given.now.joints.now _ c.args.joints.now whole (omega (arith, whole, c.requires))
-    (ap (λ (z : List Float). z ++ drop (length c.args.given.now.joints.now) c.args.joints.now) c.copy_from_slice.ensures.after)
-    (c.divide_solved.ensures.answer, (c.divide_solved.ensures.poses, c.divide_solved.ensures.joints)) in
-    record { answer = all.0; poses = all.1.0; joints = all.1.1 }
+    let l = c.divide_solved.ensures.lent in
+    let all = copied_joints _ _ _ _ _ c.args.given.now.joints.now _ c.args.out.now.joints.now whole (omega (arith, whole, c.requires))
+    (ap (λ (z : List Float). z ++ drop (length c.args.given.now.joints.now) c.args.out.now.joints.now) c.copy_from_slice.ensures.after)
+    (c.divide_solved.ensures.answer, (l.in_poses, l.in_joints)) in
+    record { answer = all.0; lent = record { same_poses = l.same_poses; same_joints = l.same_joints; as_much = l.as_much; in_poses = all.1.0; in_joints = all.1.1 } }

@@ -1,20 +1,32 @@
-use borrow.Author.Rules.{rules}
-use mathlib.Core.Path.{◌≡◌, sym}
-use Rattle.std.specs.Prelude.{Err}
-use Rattle.std.proofs.lemmas.Bool.{not_from_true, not_from_false}
+use Rattle.std.proofs.Common.{◌≡◌, Err, rules, ap, ◌∙◌}
 use Rattle.quote.specs.declared.QuoteError.{QuoteError}
 use Rattle.quote.specs.Quotation.{Quote}
-use Rattle.maztubel.proofs.QuotesFor.{quote_lengths, quote_bytes, quote_chain}
+use Rattle.lists.proofs.Tests.{is}
+use Rattle.chain.proofs.Passing.{demand_passed}
+use Rattle.maztubel.proofs.Demanded.{demand_refused}
+use Rattle.maztubel.proofs.QuotesFor.{refused_by, quote_lengths, quote_bytes, quote_chain}
 use Rattle.maztubel.proofs.quote_entries.quote_of.Goals as goal
 
-pub returns-then-not-quote_whole : goal.returns-then-not-quote_whole
-returns-then-not-quote_whole c = let all = quote_lengths c.args.chain.now (record { chord = c.args.chord; axis = c.args.axis }) c.args.poses.now c.args.joints.now c.args.scratch_joints.now c.args.scratch_tips.now (rw c.quote_whole.ensures at (not_from_false _ c.if-not-quote_whole.true)) c.new.ensures in record { answer = all.0; joints = all.1.0; tips = all.1.1 }
+pub returns-in_err-demand : goal.returns-in_err-demand
+returns-in_err-demand c =
+    let a = c.args in
+    let e : ◌≡◌ {A = Quote} c.from_residual.result (Err (QuoteError.Refused c.in_err-demand.field-0.0)) = search rules in
+    let d = demand_refused _ _ _ (is c.demand.ensures c.in_err-demand.was) in
+    let all = quote_lengths a.chain.now a.tol a.poses.now a.joints.now a.scratch_joints.now a.scratch_tips.now (is c.quote_whole-whole.ensures d.0) (e ∙ ap refused_by d.1) in
+    record { answer = all.0; joints = all.1.0; tips = all.1.1 }
 
 pub returns-in_err-k : goal.returns-in_err-k
 returns-in_err-k c =
-    let s : ◌≡◌ {A = Quote} c.from_residual.result (Err (QuoteError.Refused c.in_err-k.field-0.0)) = search rules in
-    let all = quote_bytes c.args.chain.now (record { chord = c.args.chord; axis = c.args.axis }) c.args.poses.now c.args.joints.now c.args.scratch_joints.now c.args.scratch_tips.now (rw c.quote_whole.ensures at (not_from_true _ c.if-not-quote_whole.false)) (sym c.in_err-k.ensures) s in
+    let a = c.args in
+    let e : ◌≡◌ {A = Quote} c.from_residual-in_err-k.result (Err (QuoteError.Refused c.in_err-k.field-0.0)) = search rules in
+    let w = is c.quote_whole-whole.ensures (demand_passed _ _ _ (is c.demand.ensures c.in_ok-demand.was)) in
+    let all = quote_bytes a.chain.now a.tol a.poses.now a.joints.now a.scratch_joints.now a.scratch_tips.now w (is c.read_chain.ensures c.in_err-k.was) e in
     record { answer = all.0; joints = all.1.0; tips = all.1.1 }
 
 pub returns : goal.returns
-returns c = let all = quote_chain c.args.chain.now (record { chord = c.args.chord; axis = c.args.axis }) c.args.poses.now c.args.joints.now c.args.scratch_joints.now c.args.scratch_tips.now (rw c.quote_whole.ensures at (not_from_true _ c.if-not-quote_whole.false)) (sym c.in_ok-k.ensures) c.quote_path.ensures.answer c.quote_path.ensures.joints c.quote_path.ensures.tips in record { answer = all.0; joints = all.1.0; tips = all.1.1 }
+returns c =
+    let a = c.args in
+    let w = is c.quote_whole-whole.ensures (demand_passed _ _ _ (is c.demand.ensures c.in_ok-demand.was)) in
+    let s = c.quote_path.ensures in
+    let all = quote_chain a.chain.now a.tol a.poses.now a.joints.now a.scratch_joints.now a.scratch_tips.now w (is c.read_chain.ensures c.in_ok-k.was) s.answer s.joints s.tips in
+    record { answer = all.0; joints = all.1.0; tips = all.1.1 }

@@ -21,6 +21,5 @@ balls_in-balls-requires c =
 pub returns : goal.returns
 returns c =
     let passed = is c.meeting_check.ensures c.in_ok-meeting_check.was in
-    let balls = c.as_slice.ensures.value ∙ c.balls_in-balls.ensures in
-    let all = with_promise _ _ _ _ (ap Ok c.along.ensures ∙ meeting_agree _ _ _ _ _ _ passed c.prepare-p.ensures balls) in
+    let all = with_promise _ _ _ _ (ap Ok c.along.ensures ∙ meeting_agree _ _ _ _ _ _ passed c.prepare-p.ensures c.balls_in-balls.ensures) in
     record { answer = all.0; first = all.1 }

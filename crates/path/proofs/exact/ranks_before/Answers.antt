@@ -1,14 +1,14 @@
+use Rattle.std.proofs.Common.{rules}
+use Rattle.float.specs.TotalOrder.{total_compare}
+use Rattle.inverse.specs.Solutions.{compare}
+use Rattle.inverse.proofs.Compared.{then_with_is, first_of_two, less_is}
 use Rattle.path.specs.Exact.{ranks_before}
 use Rattle.path.proofs.exact.ranks_before.Goals as goal
 
-pub returns-then-precedes : goal.returns-then-precedes
-unfolding ranks_before
-returns-then-precedes c = rw (rw c.precedes.ensures at c.if-precedes.true)
-
-pub returns-then-precedes-2 : goal.returns-then-precedes-2
-unfolding ranks_before
-returns-then-precedes-2 c = rw (rw c.precedes.ensures at c.if-precedes.false, rw c.precedes-2.ensures at c.if-precedes-2.true)
-
 pub returns : goal.returns
-unfolding ranks_before
-returns c = rw (c.precedes-3.ensures, rw c.precedes.ensures at c.if-precedes.false, rw c.precedes-2.ensures at c.if-precedes-2.false)
+unfolding ranks_before total_compare
+returns c =
+    let r = c.args.r in
+    let q = c.args.q in
+    let both = then_with_is c.total_cmp.result (compare r.joints q.joints) c.then_with.result _ c.then_with.ensures (λ h. search rules) in
+    rw (c.is_lt.ensures, both, c.total_cmp.ensures, first_of_two _ _ _, less_is _ _)

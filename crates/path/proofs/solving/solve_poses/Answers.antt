@@ -3,7 +3,7 @@ use Rattle.path.proofs.Walking.{walking_start, walking_step, walking_refused, wa
 use Rattle.path.proofs.solving.solve_poses.Goals as goal
 
 pub loop-i-init : goal.loop-i-init
-loop-i-init c = walking_start _ _ _ _ c.requires.0 c.requires.1
+loop-i-init c = walking_start c.args.s.now.setup c.args.start _ _ c.requires
 
 pub returns-in-Err : goal.returns-in-Err
 returns-in-Err c =
@@ -16,7 +16,7 @@ returns-in-Err c =
 
 pub loop-i-preserved : goal.loop-i-preserved
 loop-i-preserved c =
-    rw c.put_joints.ensures
+    rw (c.put_joints.ensures, c.from-previous.ensures)
     (walking_step c.loop-i-test.true
     c.loop-i.invariant
     ((rw c.pose_in-pose.ensures at (sym c.pose_answer.ensures))

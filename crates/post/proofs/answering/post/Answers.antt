@@ -11,4 +11,4 @@ returns-in-Ok c =
 pub returns-in-Err : goal.returns-in-Err
 unfolding post
 returns-in-Err c =
-    let e = sym c.read_job.ensures ∙ c.in-Err.is in record { end = rw e c.tell.ensures.end; text = rw e c.tell.ensures.text; served = no_job_told _ _ e }
+    let e = sym c.read_job.ensures ∙ c.in-Err.is in record { end = rw e (rw c.into.ensures at c.tell.ensures.end); text = rw e (rw c.into.ensures at c.tell.ensures.text); served = no_job_told _ _ e }

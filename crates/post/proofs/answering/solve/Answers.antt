@@ -24,5 +24,5 @@ returns c =
     let r : length c.args.room.now.joints ≡ 3500 = search rules in
     let s = solved c.args.bytes.now c.args.j c.requires c.args.room.now.poses _ c.args.room.now.divided c.args.room.now.joints _ _ p q r lent c.solve_and_divide.ensures.answer c.solve_and_divide.ensures.joints in
     let k = c.args.j.chain in
-    let cabled = path_cabled k _ None c.args.j.cone (record { chord = c.args.j.chord; axis = c.args.j.axis }) c.args.room.now.divided c.args.room.now.joints c.solve_and_divide.ensures.price c.solve_and_divide.ensures.answer c.solve_and_divide.ensures.poses c.solve_and_divide.ensures.joints in
+    let cabled = path_cabled k _ None c.args.j.cone c.args.j.tol c.args.room.now.divided c.args.room.now.joints c.solve_and_divide.ensures.price c.solve_and_divide.ensures.answer c.solve_and_divide.ensures.poses c.solve_and_divide.ensures.joints in
     record { answer = s.0; joints = s.1; served = cabled_job c.args.bytes.now c.args.j c.requires c.args.room.now.poses _ c.args.room.now.divided c.args.room.now.joints p q r lent cabled }

@@ -6,6 +6,6 @@ pub returns-then-self-eq-STACK : goal.returns-then-self-eq-STACK
 unfolding past
 returns-then-self-eq-STACK c = rw (eq-eqb _ _ c.if-self-eq-STACK.true)
 
-pub returns : goal.returns
+pub returns-else-self-eq-STACK : goal.returns-else-self-eq-STACK
 unfolding past
-returns c = rw (ne_eqb _ _ c.if-self-eq-STACK.false)
+returns-else-self-eq-STACK c = rw (ne_eqb _ _ c.if-self-eq-STACK.false)

@@ -13,11 +13,11 @@ returns-in_err-quote_check c =
     let all = refused_so c.args.k c.args.tol c.args.poses.now c.args.joints.now c.args.scratch_joints.now c.args.scratch_tips.now (sym c.in_err-quote_check.ensures) s in
     record { answer = all.0; joints = all.1.0; tips = all.1.1.0; divided = all.1.1.1 }
 
-pub invariant_of-path : goal.invariant_of-path
-invariant_of-path c = let l = quote_passed _ _ _ _ _ _ (sym c.in_ok-quote_check.ensures) in record { poses_whole = l.1.0; joints_whole = l.1.1 }
+pub invariant_of-given : goal.invariant_of-given
+invariant_of-given c = let l = quote_passed _ _ _ _ _ _ (sym c.in_ok-quote_check.ensures) in record { poses_whole = l.1.0; joints_whole = l.1.1 }
 
-pub quote_checked-requires : goal.quote_checked-requires
-quote_checked-requires c = (quote_passed _ _ _ _ _ _ (sym c.in_ok-quote_check.ensures)).0
+pub invariant_of-cleared : goal.invariant_of-cleared
+invariant_of-cleared c = record { few = (quote_passed _ _ _ _ _ _ (sym c.in_ok-quote_check.ensures)).0 }
 
 pub returns : goal.returns
-returns c = let all = checked_so c.args.k c.args.tol c.args.poses.now c.args.joints.now c.args.scratch_joints.now c.args.scratch_tips.now (sym c.in_ok-quote_check.ensures) c.quote_checked.ensures.answer c.quote_checked.ensures.joints c.quote_checked.ensures.tips in record { answer = all.0; joints = all.1.0; tips = all.1.1.0; divided = all.1.1.1 }
+returns c = let all = checked_so c.args.k c.args.tol c.args.poses.now c.args.joints.now c.args.scratch_joints.now c.args.scratch_tips.now (sym c.in_ok-quote_check.ensures) c.cleared.ensures.answer c.cleared.ensures.joints c.cleared.ensures.tips in record { answer = all.0; joints = all.1.0; tips = all.1.1.0; divided = all.1.1.1 }

@@ -1,11 +1,7 @@
-use lib.Ieee.{nan_bits}
 use Rattle.root.proofs.RootCases.{normal_of, case_normal}
 use Rattle.root.proofs.RootTests.{normal_above, nothing_smaller}
 use Rattle.std.proofs.Common.{rules}
 use Rattle.root.proofs.square_root.root.Goals as goal
-
-pub float_from_bits-t-3 : goal.float_from_bits-t-3
-float_from_bits-t-3 c = unfold nan_bits in tt
 
 pub normal_root-requires : goal.normal_root-requires
 normal_root-requires c = normal_of _ ((normal_above _ (search rules) c.if-x.false c.if-x-2.true)) c.if-x.false

@@ -1,27 +1,6 @@
-use lib.Ieee.{binary64, to_bits}
-use Rattle.root.proofs.RootCases.{no_nan, bits_lo, bits_hi, scaled}
-use Rattle.root.proofs.RootTests.{field_room, odd_room, m_low, m_high, f_low, f_high}
+use Rattle.root.proofs.RootCases.{scaled}
 use Rattle.std.proofs.Common.{rules}
 use Rattle.root.proofs.square_root.sure_root.Goals as goal
 
-pub float_to_bits-b : goal.float_to_bits-b
-float_to_bits-b c = no_nan c.args.x (bits_hi c.args.x c.requires.0)
-
-pub overflow_add-f : goal.overflow_add-f
-overflow_add-f c = record { fits = field_room (to_bits binary64 c.args.x) c.args.shift (bits_lo c.args.x c.requires.0) (bits_hi c.args.x c.requires.0) c.requires.1 }
-
-pub overflow_add-odd : goal.overflow_add-odd
-overflow_add-odd c = record { fits = odd_room (to_bits binary64 c.args.x) c.args.shift (bits_lo c.args.x c.requires.0) (bits_hi c.args.x c.requires.0) c.requires.1 }
-
-pub parts_root-requires : goal.parts_root-requires
-parts_root-requires c =
-    let x = c.args.x in
-    let b = to_bits binary64 x in
-    let k = c.args.shift in
-    let lo = bits_lo x c.requires.0 in
-    let hi = bits_hi x c.requires.0 in
-    let s = c.requires.1 in
-    (m_low b k lo hi s, m_high b k lo hi s, f_low b k lo hi s, f_high b k lo hi s, c.sure_digits.ensures)
-
 pub returns : goal.returns
-returns c = scaled c.args.x (search rules) c.requires.0 c.args.shift c.parts_root.result c.parts_root.ensures
+returns c = scaled c.args.x (search rules) c.requires.0 c.args.shift c.root.result (rw (c.apart-p.ensures.0, c.apart-p.ensures.1) at c.root.ensures)

@@ -8,4 +8,4 @@ pub returns-then-s-p : goal.returns-then-s-p
 returns-then-s-p c = pick _ _ _ c.if-s-p.true ∙ passes_is c.args.t c.args.r c.sine_kernel-s.result c.cosine_kernel.result c.sine_kernel-s.ensures.name c.cosine_kernel.ensures.name
 
 pub returns-else-s-p : goal.returns-else-s-p
-returns-else-s-p c = drop _ _ _ c.if-s-p.false ∙ passes_is c.args.t c.args.r c.sine_kernel-s.result c.cosine_kernel.result c.sine_kernel-s.ensures.name c.cosine_kernel.ensures.name
+returns-else-s-p c = c.if-s-p.false ∙ drop _ _ _ c.if-s-p.false ∙ passes_is c.args.t c.args.r c.sine_kernel-s.result c.cosine_kernel.result c.sine_kernel-s.ensures.name c.cosine_kernel.ensures.name

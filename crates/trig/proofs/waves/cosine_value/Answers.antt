@@ -7,10 +7,10 @@ use Rattle.trig.proofs.waves.cosine_value.Goals as goal
 pub returns-then-x : goal.returns-then-x
 returns-then-x c = cosine_is_zero c.args.x c.if-x.true
 
-pub turned-t-requires : goal.turned-t-requires
-turned-t-requires c = tame_size c.args.x ((subst T (sym c.well_formed.0.1) tt)) c.requires c.signed-a.result c.if-x.false c.signed-a.ensures
+pub turned-requires : goal.turned-requires
+turned-requires c = tame_size c.args.x ((subst T (sym c.well_formed.0.1) tt)) c.requires c.signed-a.result c.if-x.false c.signed-a.ensures
 
 pub returns : goal.returns
 returns c =
-    let e = c.turned-t.ensures in
+    let e = c.turned.ensures in
     cosine_is c.args.x c.if-x.false c.signed-a.result c.wave.result c.signed-a.ensures (wave_is 1 c.signed-a.result _ _ _ c.wave.result e.0 e.1 e.2 c.wave.ensures)

@@ -1,18 +1,14 @@
-use mathlib.Core.Path.{◌∙◌, sym, ap}
+use Rattle.std.proofs.Common.{◌≡◌, rules, ◌∙◌, List, Float}
+use Rattle.std.specs.List.{list_all}
+use Rattle.std.proofs.lemmas.Iterator.{YieldsList-from_slice}
+use Rattle.std.proofs.lemmas.Iterator.Search.{all_from_yields_List}
 use Rattle.turn.specs.Items.{joints_from, joints_in}
-use Rattle.turn.proofs.Scanning.{scanning_start, scanning_step, scanning_missed, scanning_all}
+use Rattle.turn.proofs.Chunks.{sets_of}
 use Rattle.turn.proofs.items.every_set.Goals as goal
 
-pub loop-i-init : goal.loop-i-init
-loop-i-init g c = λ t f. scanning_start t 5 joints_from _ _
-
-pub returns-then-not-test : goal.returns-then-not-test
-unfolding joints_in
-returns-then-not-test g c = λ t f. scanning_missed t 5 joints_from _ _ c.loop-i-test.true (c.loop-i.invariant t f) (sym (f _ _ c.test.ensures ∙ ap t c.joints_in.ensures) ∙ c.if-not-test.true)
-
-pub loop-i-preserved : goal.loop-i-preserved
-unfolding joints_in
-loop-i-preserved g c = λ t f. scanning_step t 5 joints_from _ _ c.loop-i-test.true (c.loop-i.invariant t f) (sym (f _ _ c.test.ensures ∙ ap t c.joints_in.ensures) ∙ c.if-not-test.false)
-
 pub returns : goal.returns
-returns g c = λ t f. scanning_all t 5 joints_from _ _ c.loop-i-test.false (c.loop-i.invariant t f)
+unfolding joints_in
+returns g c = λ t f.
+    let e : c.all.result ≡ list_all (λ (l : List Float). t (joints_from l)) c.as_chunks.result.0.now =
+    all_from_yields_List (λ (l : List Float). t (joints_from l)) c.all.new.self _ _ c.all.ensures.ran (YieldsList-from_slice c.as_chunks.result.0.now c.iter.ensures.rest) (search (rules, f)) in
+    e ∙ rw c.as_chunks.ensures.front (sets_of t _ c.args.joints.now)

@@ -1,5 +1,19 @@
-use Rattle.writer.proofs.Texts as Laws
+use Rattle.writer.specs.Writing.{chain_bytes}
+use Rattle.job.proofs.Written.{fits_first, fits_next, put_then}
 use Rattle.writer.proofs.writing.put_chain.Goals as goal
 
+pub put_rotary-requires : goal.put_rotary-requires
+unfolding chain_bytes
+put_rotary-requires c = fits_first _ (fits_next c.put_head.ensures c.requires)
+
+pub put_second-requires : goal.put_second-requires
+unfolding chain_bytes
+put_second-requires c = fits_first _ (fits_next c.put_rotary.ensures (fits_next c.put_head.ensures c.requires))
+
+pub put_vector-requires : goal.put_vector-requires
+unfolding chain_bytes
+put_vector-requires c = fits_next c.put_second.ensures (fits_next c.put_rotary.ensures (fits_next c.put_head.ensures c.requires))
+
 pub returns : goal.returns
-returns c = let all = Laws.put_chain c.args.w c.requires.0 c.args.k _ c.args.out.now _ _ _ _ c.put_head.ensures c.put_rotary.ensures (c.put_second-end.ensures.end, c.put_second-end.ensures.lent) c.put_vector.ensures in record { end = all.0; lent = all.1 }
+unfolding chain_bytes
+returns c = put_then c.put_head.ensures (put_then c.put_rotary.ensures (put_then c.put_second.ensures c.put_vector.ensures))

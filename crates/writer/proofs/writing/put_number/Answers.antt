@@ -1,13 +1,9 @@
-use mathlib.Core.Path.{ap, ◌∙◌}
-use mathlib.Core.List.{List}
-use Prim.Native.Nat.{ℕ}
-use Rattle.job.specs.Spelling.{written}
-use Rattle.writer.specs.Writing.{number_bytes, bytes_of}
-use Rattle.writer.proofs.Texts.{eight_low}
+use mathlib.Core.Path.{◌∙◌}
+use Rattle.writer.proofs.Texts.{number_low}
 use Rattle.writer.proofs.writing.put_number.Goals as goal
 
+pub put-requires : goal.put-requires
+put-requires c = rw (c.to_le_bytes.ensures ∙ number_low c.args.x _ c.bits_of.ensures) c.requires
+
 pub returns : goal.returns
-unfolding number_bytes
-returns c =
-    c.put_bytes.ensures
-    ∙ ap (λ (t : List ℕ). written c.args.out.now c.args.at t) (c.to_le_bytes.ensures ∙ (eight_low c.bits_of.result ∙ ap (bytes_of 8) c.bits_of.ensures))
+returns c = rw (c.to_le_bytes.ensures ∙ number_low c.args.x _ c.bits_of.ensures) at c.put.ensures

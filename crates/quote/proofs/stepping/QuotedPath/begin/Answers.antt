@@ -6,7 +6,7 @@ use Rattle.quote.proofs.Kept.{begun_axis}
 use Rattle.quote.proofs.stepping.QuotedPath.begin.Goals as goal
 
 pub evaluated-requires : goal.evaluated-requires
-evaluated-requires c = ((c.requires, lit≤ tt), (c.axis-left_axis.ensures ∙ begun_axis c.args.self.now.p c.args.self.now.given.poses.now c.args.self.now.given.joints.now c.item-left.ensures, c.axis-end_axis.ensures ∙ ap (axis_at c.args.self.now.p c.args.self.now.given.joints.now) c.next_given.ensures.same))
+evaluated-requires c = (lit≤ tt, (c.axis-left_axis.ensures ∙ begun_axis c.args.self.now.p c.args.self.now.given.poses.now c.args.self.now.given.joints.now c.item-left.ensures, c.axis-end_axis.ensures ∙ ap (axis_at c.args.self.now.p c.args.self.now.given.joints.now) c.next_given.ensures.same))
 
 pub returns : goal.returns
 unfolding begun

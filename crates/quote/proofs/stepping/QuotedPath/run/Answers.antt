@@ -1,27 +1,34 @@
+use native.Mathlib.Omega.{arith}
 use borrow.Author.Rules.{rules}
-use mathlib.Core.Path.{◌≡◌, sym, ◌∙◌}
-use Rattle.std.specs.Prelude.{None, Option}
+use mathlib.Core.Path.{◌≡◌, sym, ap, ◌∙◌}
+use Rattle.std.specs.Prelude.{⊤, None, Option}
 use Rattle.quote.specs.declared.Quoter.{Quoter}
+use Rattle.quote.specs.QuotationSteps.{left_by}
 use Rattle.quote.proofs.Going.{running_start, advance_needs, going_on, ran_many, going_end}
 use Rattle.quote.proofs.stepping.QuotedPath.run.Goals as goal
 
-pub loop-stack-init : goal.loop-stack-init
-loop-stack-init c = running_start _ _ _ _ _ _ c.begin-state.ensures c.args.self.now.some c.requires
+pub loop-state-init : goal.loop-state-init
+loop-state-init c = running_start _ _ _ _ _ _ c.begin-state.ensures c.args.self.now.some (omega arith)
 
 pub advance-requires : goal.advance-requires
-advance-requires c = let n = c.loop-stack.invariant in advance_needs _ _ _ _ _ n c.args.self.now.few (sym c.goes_on.ensures ∙ c.loop-stack-test.true)
+advance-requires c = let n = c.loop-state.invariant in advance_needs _ _ _ _ _ n c.args.self.now.few (sym c.goes_on.ensures ∙ c.loop-state-test.true)
 
-pub loop-stack-smaller : goal.loop-stack-smaller
-loop-stack-smaller c = (going_on _ _ _ _ _ c.loop-stack.invariant (sym c.goes_on.ensures ∙ c.loop-stack-test.true) c.advance.ensures.step c.advance.ensures.stack c.in_ok-state.was).1
+pub loop-state-smaller : goal.loop-state-smaller
+loop-state-smaller c =
+    let on = ap (λ (o : Option ⊤). left_by o c.advance.new.m) c.in_ok-advance.was in
+    (going_on _ _ _ _ _ c.loop-state.invariant (sym c.goes_on.ensures ∙ c.loop-state-test.true) c.advance.ensures.step c.advance.ensures.stack on).1
 
-pub loop-stack-preserved : goal.loop-stack-preserved
-loop-stack-preserved c = (going_on _ _ _ _ _ c.loop-stack.invariant (sym c.goes_on.ensures ∙ c.loop-stack-test.true) c.advance.ensures.step c.advance.ensures.stack c.in_ok-state.was).0
+pub loop-state-preserved : goal.loop-state-preserved
+loop-state-preserved c =
+    let on = ap (λ (o : Option ⊤). left_by o c.advance.new.m) c.in_ok-advance.was in
+    (going_on _ _ _ _ _ c.loop-state.invariant (sym c.goes_on.ensures ∙ c.loop-state-test.true) c.advance.ensures.step c.advance.ensures.stack on).0
 
-pub returns-in_err-state : goal.returns-in_err-state
-returns-in_err-state c =
+pub returns-in_err-advance : goal.returns-in_err-advance
+returns-in_err-advance c =
     let s : ◌≡◌ {A = Option Quoter} c.from_residual.result None = search rules in
-    let all = ran_many _ _ _ _ _ c.loop-stack.invariant (sym c.goes_on.ensures ∙ c.loop-stack-test.true) c.advance.ensures.step c.advance.ensures.stack c.in_err-state.was s in
+    let many = ap (λ (o : Option ⊤). left_by o c.advance.new.m) c.in_err-advance.was in
+    let all = ran_many _ _ _ _ _ c.loop-state.invariant (sym c.goes_on.ensures ∙ c.loop-state-test.true) c.advance.ensures.step c.advance.ensures.stack many s in
     record { answer = all.0; few = all.1 }
 
 pub returns : goal.returns
-returns c = let all = going_end _ _ _ _ _ c.loop-stack.invariant (sym c.goes_on.ensures ∙ c.loop-stack-test.false) in record { answer = all.0; few = all.1 }
+returns c = let all = going_end _ _ _ _ _ c.loop-state.invariant (sym c.goes_on.ensures ∙ c.loop-state-test.false) in record { answer = all.0; few = all.1 }

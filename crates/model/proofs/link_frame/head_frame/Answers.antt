@@ -1,0 +1,17 @@
+use Rattle.std.proofs.Common.{rules}
+use Rattle.chain.specs.Forward.{head_point, head_vector}
+use Rattle.model.specs.Frame.{head_map_point, head_map_direction, head_frame}
+use Rattle.model.proofs.link_frame.head_frame.Goals as goal
+
+pub returns : goal.returns
+unfolding head_frame head_map_point head_map_direction
+returns c =
+    rw (
+      c.from_axes.ensures,
+      c.carried-axis_z.ensures head_vector (λ s t v r h. search rules),
+      c.carried-axis_y.ensures head_vector (λ s t v r h. search rules),
+      c.carried-axis_x.ensures head_vector (λ s t v r h. search rules),
+      c.add-origin.ensures,
+      c.carried.ensures head_point (λ s t v r h. search rules),
+      c.identity-still.ensures,
+    )

@@ -1,7 +1,0 @@
-use mathlib.Core.Path.{refl}
-use Rattle.turn.specs.Turning.{with_midpoint, before}
-use Rattle.turn.proofs.Machine.with_midpoint.Goals as goal
-
-pub returns : goal.returns
-unfolding with_midpoint before
-returns c = refl
