@@ -36,7 +36,7 @@ word_is l at =
     rw e (omega arith)
 
 -- a byte of the n from `at` on, and the eight of them as a word
-chunk_byte : (l : List ℕ) (at n i : ℕ) → i < n → get_or (take n (slice_range l at (at + n))) i 0 ≡ get_or l (at + i) 0
+pub chunk_byte : (l : List ℕ) (at n i : ℕ) → i < n → get_or (take n (slice_range l at (at + n))) i 0 ≡ get_or l (at + i) 0
 chunk_byte l at n i lt =
     get_or-take n (slice_range l at (at + n)) i 0 lt ∙ get_or-take (at + n - at) (drop at l) i 0 (omega arith) ∙ get_or-drop at l i 0
 

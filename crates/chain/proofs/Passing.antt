@@ -1,8 +1,9 @@
--- What a list of checks that passed says of each of them.
+-- What a list of checks that passed says of each of them, and a check that refused of what it tests.
 use Prim.Native.Nat.{ℕ}
-use mathlib.Core.Path.{◌≡◌, refl, ap}
+use mathlib.Core.Path.{◌≡◌, refl, sym, ap}
 use mathlib.Core.Bool.{Bool, true, false, false≢true}
 use Rattle.std.specs.Prelude.{Err, Ok}
+use Rattle.refusal.specs.Numbers.{refusal}
 use Rattle.refusal.specs.declared.Cause.{Cause}
 use Rattle.refusal.specs.declared.Refusal.{Refusal}
 use Rattle.chain.specs.Checked.{Checked}
@@ -26,6 +27,14 @@ first_refused second e = rw e refl
 pub demand_passed : (ok : Bool) (cause : Cause) (at : ℕ) → demand ok cause at ≡ Ok tt → ok ≡ true
 demand_passed true cause at e = refl
 demand_passed false cause at e = absurd (refused_passed e)
+
+abbrev refusal_or : Refusal → Checked → Refusal
+refusal_or other (Err r) = r
+refusal_or other (Ok _) = other
+
+pub demand_refused : (ok : Bool) (cause : Cause) (at : ℕ) {r : Refusal} → demand ok cause at ≡ Err r → (ok ≡ false) × (r ≡ refusal cause at)
+demand_refused true cause at e = absurd (refused_passed (sym e))
+demand_refused false cause at {r} e = (refl, sym (ap (refusal_or r) e))
 
 -- six checks in a row
 pub record SixPassed (a b c d e f : Checked) : Type 0 where

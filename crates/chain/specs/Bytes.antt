@@ -1,4 +1,5 @@
--- Numbers in bytes: a whole number is the sum of its bytes, each times 256 to the power of its place; a float is that number's bit pattern, and every nan's pattern is the one nan.
+-- Numbers in bytes: a whole number is the sum of its bytes, each times 256 to the power of its place; a float is that
+-- number's bit pattern, and every nan's pattern is the one nan.
 use Rattle.std.specs.Prelude.{Bool, ◌||◌, List, ℕ, zero, suc, ◌+◌, ◌*◌, ◌^◌, eqb, get_or, Float}
 use Rattle.std.specs.Float.{binary64}
 use Rattle.std.specs.Float.Ieee.{of_bits}

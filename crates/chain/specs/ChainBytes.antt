@@ -35,8 +35,8 @@ spindle_field w count = 8 + w * count
 abbrev pub length_of_chain : ℕ → ℕ → ℕ
 length_of_chain w count = 32 + w * count
 
--- in a record: the letter, the carrier (0 a table, 1 a head), whether it has limits (0 or 1), 5 zero bytes, axis, pivot,
--- the two limits, +0.0 where it has none, and in a record of 80 bytes the rest angle
+-- in a record: the letter, the carrier (0 a table, 1 a head), whether it has limits (0 or 1), 5 zero bytes, axis,
+-- pivot, the two limits, +0.0 where it has none, and in a record of 80 bytes the rest angle
 abbrev pub letter_field : ℕ → ℕ
 letter_field at = at
 

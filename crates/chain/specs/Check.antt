@@ -1,4 +1,5 @@
--- What a chain must be. A check answers `Passed` or a refusal; a list of checks answers with its first refusal, so the order of the papers is the order of the list.
+-- What a chain must be. A check answers `Ok` or a refusal; a list of checks answers with its first refusal, so the
+-- order of the papers is the order of the list.
 use Rattle.std.specs.Prelude.{Bool, true, false, not, ◌&&◌, cond, List, [], ◌∷◌, ℕ, ltb, eqb, Float, Err, None, Ok, Option, Some}
 use Rattle.std.specs.Float.Ieee as Ieee
 use Rattle.std.specs.Float.{binary64}

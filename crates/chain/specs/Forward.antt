@@ -1,4 +1,5 @@
--- Forward: tip = T⁻¹ (xyz + H (-L spindle)), axis = T⁻¹ H spindle, normalised, for the heads H = H1 H2 and the tables T = T1 T2, outer joint first. Turning back is the turn by the negated angle.
+-- Forward: tip = T⁻¹ (xyz + H (-L spindle)), axis = T⁻¹ H spindle, normalised, for the heads H = H1 H2 and the tables
+-- T = T1 T2, outer joint first. Turning back is the turn by the negated angle.
 use Rattle.std.specs.Prelude.{Bool, not, ◌&&◌, [], ◌∷◌, Float, Err, None, Ok, Option, Result, Some}
 use Rattle.std.specs.Float.Ieee as Ieee
 use Rattle.std.specs.Float.Ieee.Scale.{finite}
@@ -90,6 +91,14 @@ unfoldable pub table_vector : Spin → Turn → Vec3 → Vec3
 table_vector s turn v = by_table s.carrier (rotate_vector s.axis v turn) v
 
 -- ---- the chain: heads from the inner joint outwards, then tables back from the outer joint inwards
+-- by the inner rotary and then the first, where f is how a rotary takes a vector along; and by the first and then the
+-- inner one
+abbrev pub carried : (Spin → Turn → Vec3 → Vec3) → Prepared → Turns → Vec3 → Vec3
+carried f p t v = f p.first t.first (by_second p.second (λ s. f s t.second) v)
+
+abbrev pub carried_back : (Spin → Turn → Vec3 → Vec3) → Prepared → Turns → Vec3 → Vec3
+carried_back f p t v = by_second p.second (λ s. f s t.second) (f p.first t.first v)
+
 unfoldable pub reach_axis : Prepared → Turns → Vec3
 reach_axis p t =
     by_second p.second (λ s. table_vector s t.second)
@@ -108,6 +117,10 @@ reach p t xyz tool = record {
 -- total: where the reached axis has no direction, the unit spindle
 unfoldable pub forward_core : Prepared → Turns → Vec3 → Float → ToolPose
 forward_core p t xyz tool = record { tip = (reach p t xyz tool).tip; axis = unit_or (reach p t xyz tool).axis p.spindle }
+
+-- the same at joints
+abbrev pub pose_at : Prepared → Joints → Float → ToolPose
+pose_at p j tool = forward_core p (turns_of p j.a0 j.a1) j.xyz tool
 
 -- the gauge position for a tip, from the tip that forward reaches at position zero; the tables turned forth
 unfoldable pub position : Prepared → Turns → Vec3 → Vec3 → Vec3

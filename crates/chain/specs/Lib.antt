@@ -1,5 +1,7 @@
 pub mod Checked
--- `Bytes`, `ChainBytes`: a chain from its bytes. `Check`: the lists of checks. `Prepared`: a chain with unit axes. `Forward`: from joints to the tool's pose. `Ready`: a chain that a call serves; `ReadySteps`: its inner functions. `Angles`: the angle of one rotary. `Examples`: chain bytes, worked out.
+-- `Bytes`, `ChainBytes`: a chain from its bytes. `Check`: the lists of checks. `Prepared`: a chain with unit axes.
+-- `Forward`: from joints to the tool's pose. `Ready`: a chain that a call serves; `ReadySteps`: its inner functions.
+-- `Angles`: the angle of one rotary. `Examples`: chain bytes, worked out.
 pub mod Bytes
 pub mod ChainBytes
 pub mod Check

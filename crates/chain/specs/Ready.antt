@@ -1,4 +1,5 @@
--- A chain from its bytes for a call that serves: where its bytes, its check and its sizes pass, it is prepared. Where one of them refuses it is `Unserved`, and the call's list of checks has the refusal.
+-- A chain from its bytes for a call that serves: where its bytes, its check and its sizes pass, it is prepared. Where
+-- one of them refuses it is `None`, and the call's list of checks has the refusal.
 use Rattle.std.specs.Prelude.{◌&&◌, cond, List, ℕ, Err, None, Ok, Option, Result, Some, is_ok}
 use Rattle.refusal.specs.declared.Refusal.{Refusal}
 use Rattle.chain.specs.declared.Prepared.{Prepared}

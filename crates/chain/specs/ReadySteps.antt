@@ -17,7 +17,7 @@ use Rattle.chain.specs.declared.Joints.{Joints}
 use Rattle.chain.specs.declared.Prepared.{Prepared}
 use Rattle.chain.specs.Bytes.{byte_at, vector_at}
 use Rattle.chain.specs.Check.{known_letter, other_letter, travel_good, rotary_within, within, longest, joints_within}
-use Rattle.chain.specs.ChainBytes.{carrier_field, axis_field, pivot_field, second_field, spindle_field, read_chain, zeros, rotary_fields, rotary_at, carrier_of}
+use Rattle.chain.specs.ChainBytes.{carrier_field, axis_field, pivot_field, second_field, spindle_field, zeros, rotary_fields, rotary_at, carrier_of}
 use Rattle.chain.specs.Forward.{forward_check, posed, reach, turns_of}
 
 -- ---- what must be, the directions aside

@@ -35,8 +35,9 @@ pub fn flag(bytes: &[u8], at: usize) -> bool
     byte_at(bytes, at) < 2
 }
 
-// Records are read by an offset and not as a value of their own with its bound: `rotary_fields` and `travel_at` go by
-// the 72 bytes of either kind, so that a `Record { bytes, at, w }` would ask for more than they read.
+// Records are read by an offset and not as a value of their own with its bound: of the readers here and in ready_chain
+// three go by the 72 bytes of either kind and three by all w, so that there would be two structs, and
+// `Record { bytes, at }.travel()` is no plainer than `travel_at(bytes, at)`.
 // What the bytes of a rotary's record must be, the letter aside.
 #[tactic(auto, unfolding(crate::specs::ChainBytes::rotary_fields))]
 pub fn rotary_fields(bytes: &[u8], at: usize) -> Result<(), Refusal>

@@ -18,7 +18,8 @@ pub fn demand(ok: bool, cause: Cause, at: u64) -> Result<(), Refusal>
 }
 
 impl RotaryLimits {
-    // Whether the angle lies within, ends included.
+    // Whether the angle lies within, ends included: by two comparisons, as the definition has it, since `contains` of a
+    // range has a flag besides and the check does not find it.
     #[tactic(auto, unfolding(crate::specs::Check::contains))]
     pub fn contains(self, angle: f64) -> bool
         ensures { result ≡ S.contains self angle }

@@ -6,7 +6,7 @@ ghost use Rattle.chain.specs.ChainBytes.{read_chain};
 ghost use Rattle.chain.specs.Forward as S;
 ghost use Rattle.chain.specs.ReadySteps as Steps;
 
-use crate::bytes_at::{byte_at, vector_at};
+use crate::bytes_at::vector_at;
 use crate::chain_bytes::{read_chain, record_length};
 use crate::checks::{
     chain_check, chain_within, demand, joints_finite, joints_within, one_or_two, within,
@@ -90,22 +90,46 @@ pub fn table_vector(s: Spin, turn: Turn, v: Vec3) -> Vec3
     }
 }
 
-// The chain and its turns stay two arguments: one chain goes with two kinds of turns, back to `reach` and forth to
-// `position`, and each call would write `Turned { p: &p, turns }`.
+// The chain and its turns stay two arguments, here and below: one chain goes with two kinds of turns, back to `reach`
+// and forth to `position`, and each call would write `Turned { p: &p, turns }`.
+//
+// A point or a direction with the inner rotary turned, then the first one: `turned` is how one rotary takes it along,
+// of a table or of a head.
+pub fn carried<F: Fn(Spin, Turn, Vec3) -> Vec3>(
+    p: Prepared,
+    turns: Turns,
+    v: Vec3,
+    turned: F,
+) -> Vec3
+    requires { F.IsAlwaysCallable turned }
+    ensures { (f : Spin → Turn → Vec3 → Vec3) → ((s : Spin) (t : Turn) (u : Vec3) (r : Vec3) → F.post turned s t u r → r ≡ f s t u) → result ≡ S.carried f p turns v }
+{
+    let inner = p.second.map_or(v, |s| turned(s, turns.second, v));
+    turned(p.first, turns.first, inner)
+}
+
+// The way back through the chain: the first rotary turned, then the inner one.
+fn carried_back<F: Fn(Spin, Turn, Vec3) -> Vec3>(
+    p: Prepared,
+    turns: Turns,
+    v: Vec3,
+    turned: F,
+) -> Vec3
+    requires { F.IsAlwaysCallable turned }
+    ensures { (f : Spin → Turn → Vec3 → Vec3) → ((s : Spin) (t : Turn) (u : Vec3) (r : Vec3) → F.post turned s t u r → r ≡ f s t u) → result ≡ S.carried_back f p turns v }
+{
+    let outer = turned(p.first, turns.first, v);
+    p.second.map_or(outer, |s| turned(s, turns.second, outer))
+}
+
 // The tip, and the axis before it is normalised.
 #[tactic(auto, unfolding(crate::specs::Forward::reach))]
 fn reach(p: Prepared, turns: Turns, xyz: Vec3, tool_length: f64) -> ToolPose
     ensures { result ≡ S.reach p turns xyz tool_length }
 {
     let gauge = p.spindle * -tool_length;
-    let inner = p
-        .second
-        .map_or(gauge, |s| head_point(s, turns.second, gauge));
-    let machine = xyz + head_point(p.first, turns.first, inner);
-    let outer = table_point(p.first, turns.first, machine);
-    let tip = p
-        .second
-        .map_or(outer, |s| table_point(s, turns.second, outer));
+    let machine = xyz + carried(p, turns, gauge, head_point);
+    let tip = carried_back(p, turns, machine, table_point);
     let axis = reach_axis(p, turns);
     ToolPose { tip, axis }
 }
@@ -114,14 +138,8 @@ fn reach(p: Prepared, turns: Turns, xyz: Vec3, tool_length: f64) -> ToolPose
 fn reach_axis(p: Prepared, turns: Turns) -> Vec3
     ensures { result ≡ S.reach_axis p turns }
 {
-    let spindle = p.spindle;
-    let inner = p
-        .second
-        .map_or(spindle, |s| head_vector(s, turns.second, spindle));
-    let machine = head_vector(p.first, turns.first, inner);
-    let outer = table_vector(p.first, turns.first, machine);
-    p.second
-        .map_or(outer, |s| table_vector(s, turns.second, outer))
+    let machine = carried(p, turns, p.spindle, head_vector);
+    carried_back(p, turns, machine, table_vector)
 }
 
 // Forward, total: where the reached axis has no direction it is the unit spindle.
@@ -130,9 +148,16 @@ pub fn forward_core(p: Prepared, turns: Turns, xyz: Vec3, tool_length: f64) -> T
     ensures { result ≡ S.forward_core p turns xyz tool_length }
 {
     let reached = reach(p, turns, xyz, tool_length);
-    let tip = reached.tip;
     let axis = geometry::unit_or(reached.axis, p.spindle);
-    ToolPose { tip, axis }
+    ToolPose { axis, ..reached }
+}
+
+// The same at joints, for a caller that wants the turns for nothing else. `forward` and `forward_from` go by `reach`:
+// they refuse an axis without a direction, and here the spindle stands in its place.
+pub fn pose_at(p: Prepared, j: Joints, tool_length: f64) -> ToolPose
+    ensures { result ≡ S.pose_at p j tool_length }
+{
+    forward_core(p, turns_of(p, j.a0, j.a1), j.xyz, tool_length)
 }
 
 // The gauge position that puts the tip on the wanted one: the difference of the two, in the machine frame. `forth`
@@ -141,9 +166,7 @@ pub fn forward_core(p: Prepared, turns: Turns, xyz: Vec3, tool_length: f64) -> T
 pub fn position(p: Prepared, forth: Turns, tip: Vec3, tip0: Vec3) -> Vec3
     ensures { result ≡ S.position p forth tip tip0 }
 {
-    let gap = tip - tip0;
-    let inner = p.second.map_or(gap, |s| table_vector(s, forth.second, gap));
-    table_vector(p.first, forth.first, inner)
+    carried(p, forth, tip - tip0, table_vector)
 }
 
 // Finite and not below zero.
@@ -178,11 +201,8 @@ fn forward_check(k: Kinematics, j: Joints, tool_length: f64) -> Result<(), Refus
 fn posed(reached: ToolPose) -> Result<ToolPose, Refusal>
     ensures { result ≡ S.posed reached }
 {
-    let tip = reached.tip;
-    let Some(axis) = geometry::unit_direction(reached.axis) else {
-        return Err(Refusal::new(Cause::SpindleZero, 0));
-    };
-    Ok(ToolPose { tip, axis })
+    let axis = geometry::unit_direction(reached.axis).ok_or(Refusal::new(Cause::SpindleZero, 0))?;
+    Ok(ToolPose { axis, ..reached })
 }
 
 // The tool pose in the part frame, or the first refusal.
@@ -228,10 +248,7 @@ impl ChainBytes<'_> {
     fn reached(self, j: Joints, tool_length: f64) -> Option<ToolPose>
         ensures { result ≡ Steps.reached_counted self.entry.w self.entry.bytes.now self.entry.count j tool_length }
     {
-        if !self.first_good() {
-            return None;
-        }
-        if !self.second_good() {
+        if !self.first_good() || !self.second_good() {
             return None;
         }
         let axis = geometry::unit_direction(vector_at(self.bytes, 16))?;
@@ -254,15 +271,9 @@ fn reached_from(bytes: &[u8], j: Joints, tool_length: f64) -> Option<ToolPose>
     if !numbers_good(j, tool_length) {
         return None;
     }
-    if bytes.len() < 1 {
-        return None;
-    }
-    let count = byte_at(bytes, 0);
-    if !one_or_two(count) {
-        return None;
-    }
+    let count = *bytes.first()?;
     let w = record_length(bytes.len(), count);
-    if bytes.len() != 32 + w * count as usize {
+    if !one_or_two(count) || bytes.len() != 32 + w * count as usize {
         return None;
     }
     ChainBytes { bytes, w, count }.reached(j, tool_length)

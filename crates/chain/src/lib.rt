@@ -20,8 +20,8 @@ pub use checks::{
     joints_within, known_letter, one_or_two, within,
 };
 pub use forward_map::{
-    forth_from, forward, forward_core, forward_from, head_point, head_vector, length_good,
-    position, table_point, table_vector, turns_by, turns_of,
+    carried, forth_from, forward, forward_core, forward_from, head_point, head_vector, length_good,
+    pose_at, position, table_point, table_vector, turns_by, turns_of,
 };
 use geometry::{Turn, Vec3};
 pub use prepare_chain::prepare;
@@ -66,7 +66,8 @@ pub struct Kinematics {
 }
 
 // The bytes of a chain of one or two rotaries, all of them there; a rotary's record has w bytes. A number, where job
-// has an enum: `rotary_at`, to which it is handed on, is public and takes any w from 72 on, and the definitions any.
+// has an enum: it is added and multiplied (`8 + w`, `32 + w * count`) or handed on to the public `rotary_at`, which
+// takes any number from 72 on, and an enum would be `w.bytes()` in each.
 #[derive(Clone, Copy)]
 struct ChainBytes<'a> {
     bytes: &'a [u8],

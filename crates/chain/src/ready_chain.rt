@@ -60,7 +60,8 @@ impl ChainBytes<'_> {
         ))
     }
 
-    // The second rotary: `Some(None)` where there is none, `None` where its axis has no direction.
+    // The second rotary: `Some(None)` where there is none, `None` where its axis has no direction. An Option in
+    // another, since the two part ways: `reached` leaves by `?` at the outer None, and `Prepared` takes the inner one.
     #[tactic(auto, unfolding(crate::specs::ReadySteps::directed_second))]
     pub fn directed_second(self) -> Option<Option<Spin>>
         ensures { result ≡ Steps.directed_second self.entry.w self.entry.bytes.now self.entry.count }

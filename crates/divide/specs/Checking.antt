@@ -1,4 +1,5 @@
--- The checks of a division before its first test, as one list. The call of both makes the same of the joints that it has solved.
+-- The checks of a division before its first test, as one list. The call of both makes the same of the joints that it
+-- has solved.
 use Rattle.std.specs.Prelude.{Bool, ◌&&◌, List, [], ◌∷◌, ℕ, ◌/◌, ◌<◌, T, eqb, leb, length, get_or, Float}
 use Rattle.std.specs.Float.Ieee as Ieee
 use Rattle.std.specs.Float.{binary64, nan}

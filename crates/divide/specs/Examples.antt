@@ -1,4 +1,5 @@
--- Document 01's worked examples of the definitions, in one table: each row is a test that is computed from the definition that it shows. Answers are compared bit for bit.
+-- Document 01's worked examples of the definitions, in one table: each row is a test that is computed from the
+-- definition that it shows. Answers are compared bit for bit.
 use Rattle.std.specs.Prelude.{ℕ, Bool, true, false, not, ◌&&◌, List, [], ◌∷◌, eqb, pos, Float, None}
 use Rattle.std.specs.Float.Ieee as Ieee
 use Rattle.std.specs.Float.{binary64}

@@ -1,5 +1,7 @@
--- What the price list states of a division: demand 3, sentence by sentence. It speaks of the answer of a call and of the numbers in the two lent outputs afterwards; `g` are the given poses with the joints that they were solved to. The tolerance
--- test is `segment_within` alone, never the rule that divides. What the halving needs is said of its steps without a cap.
+-- What the price list states of a division: demand 3, sentence by sentence. It speaks of the answer of a call and of
+-- the numbers in the two lent outputs afterwards; `g` are the given poses with the joints that they were solved to. The
+-- tolerance test is `segment_within` alone, never the rule that divides. What the halving needs is said of its steps
+-- without a cap.
 use Rattle.std.specs.Prelude.{ℕ, suc, ◌+◌, ◌-◌, ◌*◌, ◌≤◌, ◌<◌, ◌≡◌, ◌⊎◌, ◌↔◌, true, false, length, drop, replicate, Float, Err, Ok, Option}
 use Rattle.std.proofs.Math.Option.{none}
 use mathlib.Core.List.{List, ◌∷◌, ◌++◌, Sublistᴰ, Memᴰ}
@@ -55,7 +57,8 @@ pub data Insertions (p : Prepared) (tol : Tolerances) : List Item → ℕ → Li
 
 -- ---- nothing is refused: the result is r, and the reported count n
 pub record Result (k : Kinematics) (p : Prepared) (tol : Tolerances) (g : List Item) (n : ℕ) (r : List Item) : Type 0 where
-  -- "the result is bit for bit what document 01's halving makes of the given poses and their solved joints": its steps lead from these to r,
+  -- "the result is bit for bit what document 01's halving makes of the given poses and their solved joints": its steps
+  -- lead from these to r,
   pub halved : Steps (divides p tol) (midpoint p) g n r
   -- and there is none that leads on
   pub ended : step (divides p tol) (midpoint p) r ≡ none
@@ -113,7 +116,8 @@ pub record Price (k : Kinematics) (tol : Tolerances) (space : ℕ) (g : List Ite
   pub many_zero : (c : ℕ) → answer ≡ Err (DivisionError.Stopped (Stop.TooMany c)) → AllZero poses joints
   pub full_zero : (c : ℕ) → answer ≡ Err (DivisionError.Stopped (Stop.NoSpace c)) → AllZero poses joints
 
--- ---- of joints that `solve_path` gives for this chain and these poses, whatever the start, the cone and the space that it had
+-- ---- of joints that `solve_path` gives for this chain and these poses, whatever the start, the cone and the space
+-- that it had
 pub record IfSolved (k : Kinematics) (tol : Tolerances) (lent solved : List Float) (roomPoses roomJoints : ℕ) (answer : Division) (poses joints : List Float) : Type 0 where
   -- where the checks before the first test pass, nothing but 27 and 28 is refused
   pub begun : division_check k tol lent solved roomPoses roomJoints ≡ Ok tt → Checks answer

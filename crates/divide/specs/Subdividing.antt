@@ -1,4 +1,5 @@
--- The two calls that divide, over lent numbers: `subdivide_path` of given poses and joints, and the call of both, which solves the joints first.
+-- The two calls that divide, over lent numbers: `subdivide_path` of given poses and joints, and the call of both, which
+-- solves the joints first.
 use Rattle.std.specs.Prelude.{ℕ, ◌/◌, ◌*◌, Bool, true, cond, ◌&&◌, List, [], ◌∷◌, eqb, leb, ltb, length, take, replicate, Float, Err, Ok, Option, Result}
 use Rattle.float.specs.Helpers.{nought}
 use Rattle.lists.specs.Rows.{flat}
@@ -21,7 +22,8 @@ use Rattle.divide.specs.declared.DivisionError.{DivisionError}
 use Rattle.divide.specs.Checking.{division_check}
 use Rattle.machine.specs.Dividing.{division, divided_in, poses_over, joints_over, Divided}
 
--- ---- what a call that divides comes to: a refusal that keeps what is lent, one at a pose or after it that leaves +0.0 in both outputs, or what the halving comes to
+-- ---- what a call that divides comes to: a refusal that keeps what is lent, one at a pose or after it that leaves +0.0
+-- in both outputs, or what the halving comes to
 pub data DivisionAnswer : Type 0 where
   Kept : Refusal → DivisionAnswer
   AtPose : Refusal → DivisionAnswer
@@ -81,7 +83,8 @@ subdivide_path k tol poses joints roomPoses roomJoints =
     unless_kept (division_check k tol poses joints roomPoses roomJoints)
     (Halved (division_within (prepared k) tol (space_in roomPoses roomJoints) (given poses joints)))
 
--- ---- the call of both: solve_path's refusals, then division's, and else what division gives for the given poses and solve_path's joints. What keeps all in solve_path keeps all here; every other refusal leaves +0.0.
+-- ---- the call of both: solve_path's refusals, then division's, and else what division gives for the given poses and
+-- solve_path's joints. What keeps all in solve_path keeps all here; every other refusal leaves +0.0.
 abbrev pub clearing : DivisionAnswer → DivisionAnswer
 clearing (Kept r) = Cleared r
 clearing (AtPose r) = AtPose r

@@ -26,7 +26,8 @@ pub fn numbers_finite(numbers: &[f64]) -> bool
     numbers.iter().all(|x| float::finite(*x))
 }
 
-// Of the whole poses, six numbers each.
+// Of the whole poses, six numbers each. Beside `turn::every_set`, which goes over joint sets: one function of both would
+// be handed the length of a record and its reader for this one call over poses.
 pub fn tips_within(poses: &[f64]) -> bool
     ensures { result ≡ all S.tip_within (poses_in poses.now) }
 {
@@ -42,6 +43,8 @@ fn all_finite(poses: &[f64], joints: &[f64]) -> bool
     numbers_finite(poses) && numbers_finite(joints)
 }
 
+// A closure that only hands its argument on. Tried by the name in crate extremes, `every_set(joints, joints_within)`:
+// the proof has no contract for it, since what crate chain exports has no file of that function's.
 #[tactic(auto, unfolding(crate::specs::Checking::joint_sets_in))]
 fn sets_within(joints: &[f64]) -> bool
     ensures { result ≡ all joints_within (S.joint_sets_in joints.now) }

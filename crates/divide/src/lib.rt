@@ -5,6 +5,7 @@
 
 ghost use Rattle.std.specs.Prelude.{◌≡◌};
 ghost use Rattle.divide.specs.declared.DivisionError.TheVariants.{Refused, Stopped};
+ghost use Rattle.divide.specs.Refused.{refusal_of};
 
 mod both;
 mod checking;
@@ -38,5 +39,17 @@ impl From<Stop> for DivisionError {
 
     fn from(s: Stop) -> DivisionError {
         DivisionError::Stopped(s)
+    }
+}
+
+// The refusal that C is told. Of a division that stopped it is the cause alone.
+impl From<DivisionError> for Refusal {
+    ghost from_gives = { λ e r. r ≡ refusal_of e };
+
+    fn from(e: DivisionError) -> Refusal {
+        match e {
+            DivisionError::Refused(refusal) | DivisionError::AtPose(refusal) => refusal,
+            DivisionError::Stopped(stop) => stop.into(),
+        }
     }
 }

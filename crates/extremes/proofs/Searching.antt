@@ -15,7 +15,7 @@ use Rattle.extremes.specs.Summary.{group_count}
 use Rattle.extremes.specs.Asking.{opened, first_index, above_at, hit, first_above}
 use Rattle.extremes.specs.AskingSteps.{group_end, in_group, found_in_group}
 use Rattle.extremes.specs.Entries.{found_among}
-use Rattle.extremes.proofs.Groups.{end_is}
+use Rattle.extremes.proofs.Groups.{starts_before, end_is}
 use Rattle.extremes.proofs.Skipping.{same_index}
 use Rattle.extremes.proofs.FirstSome.{either, first_some}
 
@@ -164,10 +164,6 @@ pub next_start : (g n : ℕ) → g * 64 < n → min ((g + 1) * 64) n ≡ group_e
 unfolding group_end
 next_start g n h = grind (arith, nat_tests)
 
-pub groups_before : (g n : ℕ) → g < group_count n → g * 64 < n
-unfolding group_count
-groups_before g n h = omega arith
-
 pub groups_over : (g n : ℕ) → group_count n ≤ g → min (g * 64) n ≡ n
 unfolding group_count
 groups_over g n h = omega arith
@@ -216,7 +212,7 @@ module _ {rotary : ℕ} {angle : Float} {s joints : List Float} {n : ℕ} where
   -- at a group's start
   pub at_start : {g : ℕ} → g < group_count n → Groups rotary angle s joints n (min (g * 64) n) → Groups rotary angle s joints n (g * 64)
   at_start {g} h v =
-      let p = groups_before g n h in
+      let p = starts_before g n h in
       let e : min (g * 64) n ≡ g * 64 = omega (arith, p) in
       rw e at v
 
@@ -235,7 +231,7 @@ module _ (rotary : ℕ) (angle : Float) (s joints : List Float) (n : ℕ) where
       at_g = at_start this h
 
       before : g * 64 < n
-      before = groups_before g n this
+      before = starts_before g n this
 
       last : group_end (g * 64) n ≤ n
       last = (end_is (g * 64) n before (at_g.starts before)).1.0

@@ -1,5 +1,5 @@
 -- What the extremes of a group are: of each of the five numbers the smallest and the largest by totalOrder. `Summary`
--- says how they are worked out, and `summary-is` (proofs/SmallestLargest.antt) that they are these.
+-- says how they are worked out, and `summary_is` (proofs/SmallestLargest.antt) that they are these.
 use Rattle.std.specs.Prelude.{◌≡◌, false, List, [], ◌∷◌, map, ◌⊎◌, Float}
 use Rattle.float.specs.TotalOrder.{before}
 use Rattle.chain.specs.declared.Joints.{Joints}

@@ -18,11 +18,11 @@ impl Question {
     }
 
     // Whether the largest of a group is above.
-    fn opened(self, summary: &[f64], g: usize) -> bool
-        requires { g * 10 + 10 ≤ length summary.now }
-        ensures { result ≡ S.opened self.rotary self.angle summary.now g }
+    fn opened(self, path: &Summed, g: usize) -> bool
+        requires { g < group_count (length path.now.joints.now / 5) }
+        ensures { result ≡ S.opened self.rotary self.angle path.now.summary.now g }
     {
-        let high = turn::joints_in(summary, g * 10 + 5);
+        let high = turn::joints_in(path.summary, g * 10 + 5);
         self.above(high)
     }
 
@@ -47,7 +47,7 @@ impl Question {
         requires { g < group_count (length path.now.joints.now / 5) }
         ensures { result ≡ found_in_group self.rotary self.angle path.now.summary.now path.now.joints.now (length path.now.joints.now / 5) g }
     {
-        if self.opened(path.summary, g) {
+        if self.opened(path, g) {
             let from = g * 64;
             return self.first_in(path.joints, from, group_end(from, path.joints.len() / 5));
         }

@@ -31,6 +31,8 @@ fn ask_good(joints: usize, summary: usize, rotary: usize) -> bool
     lengths_good(joints, summary) && rotary < 2
 }
 
+// Here and below a closure that only hands its argument on. Tried by the name, `every_set(joints, joints_finite)`: the
+// proof has no contract for it, since what crate chain exports has no file of that function's.
 #[tactic(auto, unfolding(crate::specs::Summary::sets_in))]
 pub fn all_finite(joints: &[f64]) -> bool
     ensures { result ≡ all joints_finite (sets_in joints.now) }

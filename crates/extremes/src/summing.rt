@@ -96,13 +96,11 @@ pub fn group_end(from: usize, n: usize) -> usize
     requires { from ≤ n }
     ensures { result ≡ group_end from n }
 {
-    if n - from < 64 {
-        return n;
-    }
-    from + 64
+    from + (n - from).min(64)
 }
 
-// Writes the ten numbers of a group, the smallest five first.
+// Writes the ten numbers of a group, the smallest five first. That they fit is asked here and below and is no fact of a
+// type: `Summed` is of a summary that is read, and this one is written, a group at a time.
 fn put_extremes(e: Extremes, summary: &mut [f64], g: usize)
     requires { g * 10 + 10 ≤ length summary.old }
     ensures { summary.new ≡ S.extremes_over e summary.old g }

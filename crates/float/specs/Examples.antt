@@ -1,4 +1,5 @@
--- Worked examples of the definitions, computed by the checker: what the helpers answer at zeros, halves, the ends of the format, infinities and nan.
+-- Worked examples of the definitions, computed by the checker: what the helpers answer at zeros, halves, the ends of
+-- the format, infinities and nan.
 use Rattle.std.specs.Prelude.{◌≡◌, true, false, refl}
 use Rattle.std.specs.Float.{nan, binary64}
 use Rattle.std.specs.Float.Ieee.{round, mul, neg, lt, eq, is_nan, of_bits}

@@ -1,4 +1,5 @@
--- The float helpers, each by what it answers at every float: `nan`, an infinity `inf s`, or a finite value `fin s m e`, which is m * 2 ^ e with the sign s (true: negative).
+-- The float helpers, each by what it answers at every float: `nan`, an infinity `inf s`, or a finite value `fin s m e`,
+-- which is m * 2 ^ e with the sign s (true: negative).
 -- `finite` itself is the library's (lib.Ieee.Scale): true of `fin`, false of `inf` and `nan`.
 use Rattle.std.specs.Prelude.{ℕ, ◌+◌, ◌*◌, ◌/◌, Bool, false, cond, from_bits, is_nan, nat_le}
 use lib.Ieee.{Float, nan, inf, fin, binary64, up, down, round, mul, neg, lt}
@@ -37,7 +38,8 @@ clamp_unit nan = nan
 clamp_unit (inf s) = cond s (neg one) one
 clamp_unit (fin s m e) = cond (nat_le (m * up e) (down e)) (fin s m e) (cond s (neg one) one)
 
--- Rust's `max` and `min`: of a nan and a number the number. Of two that are equal, as +0.0 and -0.0 are, the first, where Rust leaves it open.
+-- Rust's `max` and `min`: of a nan and a number the number. Of two that are equal, as +0.0 and -0.0 are, the first,
+-- where Rust leaves it open.
 unfoldable pub maximum : Float → Float → Float
 maximum x y = cond (is_nan x) y (cond (lt x y) y x)
 

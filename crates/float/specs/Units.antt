@@ -1,4 +1,5 @@
--- What a finite f64 is worth: a whole number of units of 2 ^ -1074, the least value above zero. The sign stands apart, so that a law on values is one on whole numbers.
+-- What a finite f64 is worth: a whole number of units of 2 ^ -1074, the least value above zero. The sign stands apart,
+-- so that a law on values is one on whole numbers.
 use Rattle.std.specs.Prelude.{ℕ, ◌^◌, Bool, Float}
 use Rattle.std.specs.Float.Ieee.Exact.{HasValue}
 

@@ -25,7 +25,7 @@ pub fn size(x: f64) -> f64
     if x.is_nan() {
         return x;
     }
-    f64::from_bits(f64::to_bits(x) % 9223372036854775808)
+    f64::from_bits(x.to_bits() % 9223372036854775808)
 }
 
 // A number that stands in totalOrder as x does. The last two are one `if` with an `else`, which costs no jump: by early
@@ -37,7 +37,7 @@ pub fn order_key(x: f64) -> u64
     if x.is_nan() {
         return 18446744073709551615;
     }
-    let bits = f64::to_bits(x);
+    let bits = x.to_bits();
     if bits < 9223372036854775808 {
         bits + 9223372036854775808
     } else {
@@ -52,7 +52,7 @@ pub fn precedes(x: f64, y: f64) -> bool
     order_key(x) < order_key(y)
 }
 
-// Rust's total_cmp. The library's `f64::total_cmp` says nothing of a NaN.
+// Rust's total_cmp. The library's `f64::total_cmp` asks that neither is a NaN.
 pub fn total_cmp(x: f64, y: f64) -> Ordering
     ensures { result ≡ Total.total_compare x y }
 {
@@ -78,13 +78,7 @@ pub fn clamp_unit(x: f64) -> f64
 pub fn maximum(x: f64, y: f64) -> f64
     ensures { result ≡ S.maximum x y }
 {
-    if x.is_nan() {
-        return y;
-    }
-    if x < y {
-        return y;
-    }
-    x
+    if x.is_nan() || x < y { y } else { x }
 }
 
 // The smaller of the two, where `f64::min` leaves the same open.
@@ -92,13 +86,7 @@ pub fn maximum(x: f64, y: f64) -> f64
 pub fn minimum(x: f64, y: f64) -> f64
     ensures { result ≡ S.minimum x y }
 {
-    if x.is_nan() {
-        return y;
-    }
-    if y < x {
-        return y;
-    }
-    x
+    if x.is_nan() || y < x { y } else { x }
 }
 
 pub fn to_radians(degrees: f64) -> f64

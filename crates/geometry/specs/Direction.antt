@@ -1,4 +1,5 @@
--- The unit vector of a direction: the vector times one over its length. It is not idempotent: a unit vector normalised again may change in its last bits, so callers normalise exactly as often as the Rust does.
+-- The unit vector of a direction: the vector times one over its length. It is not idempotent: a unit vector normalised
+-- again may change in its last bits, so callers normalise exactly as often as the Rust does.
 use Rattle.std.specs.Prelude.{Bool, ◌&&◌, not, cond, Float, None, Option, Some}
 use Rattle.std.specs.Float.Ieee as Ieee
 use Rattle.std.specs.Float.{binary64}

@@ -1,4 +1,5 @@
--- Each file defines what the functions of the source file of its name answer, in the operations of binary64 and in the Rust's order.
+-- Each file defines what the functions of the source file of its name answer, in the operations of binary64 and in the
+-- Rust's order.
 pub mod Vector
 pub mod Direction
 pub mod Turn

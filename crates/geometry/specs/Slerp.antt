@@ -1,4 +1,5 @@
--- The axis at t between two axes, on the great circle, and the angle between two. Equal and opposite axes have branches of their own, and so has a sum of exactly zero.
+-- The axis at t between two axes, on the great circle, and the angle between two. Equal and opposite axes have branches
+-- of their own, and so has a sum of exactly zero.
 use Rattle.std.specs.Prelude.{cond, Float, None, Option, Some}
 use Rattle.std.specs.Float.Ieee as Ieee
 use Rattle.std.specs.Float.{binary64}

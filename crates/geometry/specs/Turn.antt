@@ -27,7 +27,7 @@ rotate_vector axis v turn =
 unfoldable pub rotate_point : Vec3 → Vec3 → Vec3 → Turn → Vec3
 rotate_point axis pivot point turn = add pivot (rotate_vector axis (sub point pivot) turn)
 
--- the turn by as many degrees forth, from a turn back: `turn-back` (proofs/TurningBack.antt) says so of every angle.
+-- the turn by as many degrees forth, from a turn back: `turn_back` (proofs/TurningBack.antt) says so of every angle.
 -- Subtracting from +0.0 negates the sine and keeps a zero +0.0
 unfoldable pub turned_back : Turn → Turn
 turned_back t = record { sine = minus nought t.sine; cosine = t.cosine }

@@ -1,4 +1,5 @@
--- Vectors of binary64: each operation with its rounded steps in the Rust's order. No sum is reordered and nothing is fused.
+-- Vectors of binary64: each operation with its rounded steps in the Rust's order. No sum is reordered and nothing is
+-- fused.
 use Rattle.std.specs.Float.Ieee as Ieee
 use Rattle.std.specs.Prelude.{Float}
 use Rattle.std.specs.Float.{binary64}

@@ -25,13 +25,7 @@ fn tiny(v: Vec3) -> bool
 fn with_length(v: Vec3, len: f64) -> Option<Vec3>
     ensures { result ≡ S.with_length v len }
 {
-    if !float::finite(len) {
-        return None;
-    }
-    if len == 0.0 {
-        return None;
-    }
-    Some(v * (1.0 / len))
+    (float::finite(len) && len != 0.0).then(|| v * (1.0 / len))
 }
 
 // None for a component that is not finite, for a vector of which no component is above 1e-15 in size, and for a length

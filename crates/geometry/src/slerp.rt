@@ -5,6 +5,7 @@ ghost use Rattle.geometry.specs.Slerp as S;
 use crate::normal::{unit_direction, unit_or};
 use crate::vector::{cross, dot, norm};
 use crate::{Turn, Vec3};
+use std::f64::consts::PI;
 
 // Between opposite axes: on the great circle toward +X, or toward +Y where `start` is along X.
 fn half_turn(start: Vec3, t: f64) -> Vec3
@@ -14,7 +15,7 @@ fn half_turn(start: Vec3, t: f64) -> Vec3
     let Some(side) = unit_direction(cross(start, helper)) else {
         return start;
     };
-    let Some(p) = trig::sine_cosine(t * 3.141592653589793) else {
+    let Some(p) = trig::sine_cosine(t * PI) else {
         return start;
     };
     unit_or(start * p.cosine + side * p.sine, start)

@@ -1,11 +1,11 @@
--- Halving, a term of document 01: the first two neighbours of a list that divide get their midpoint between them, and this
--- repeats until there are none. Over any item, any test `divides` and any midpoint `mid`: what an item is, when two of them
--- divide and what lies between them is for the caller to say.
+-- Halving, a term of document 01: the first two neighbours of a list that divide get their midpoint between them, and
+-- this repeats until there are none. Over any item, any test `divides` and any midpoint `mid`: what an item is, when
+-- two of them divide and what lies between them is for the caller to say.
 use Rattle.std.specs.Prelude.{ℕ, zero, suc, ◌≡◌, Bool, true, false, List, [], ◌∷◌, leb, length}
 use Rattle.std.proofs.Math.Option.{Option, none, some}
 
--- how a halving ends, with the number of items inserted: with a list in which no two neighbours divide; where one item more
--- would be one too many (document 01's 27); or where it would have no space (28)
+-- how a halving ends, with the number of items inserted: with a list in which no two neighbours divide; where one item
+-- more would be one too many (document 01's 27); or where it would have no space (28)
 pub data Answer (A : Type 0) : Type 0 where
   Done : ℕ → List A → Answer A
   TooMany : ℕ → Answer A
@@ -33,7 +33,8 @@ module _ {A : Type 0} (divides : A → A → Bool) (mid : A → A → A) where
   step (x ∷ []) = none
   step (x ∷ (y ∷ l)) = elim (divides x y) [ true ↦ some (x ∷ mid x y ∷ y ∷ l) | false ↦ onto x (step (y ∷ l)) ]
 
-  -- step after step until there is none: `n` items have been inserted, `left` more may be, and the list may have `space` items
+  -- step after step until there is none: `n` items have been inserted, `left` more may be, and the list may have
+  -- `space` items
   unfoldable pub halve : (space left n : ℕ) → List A → Answer A
   halve space zero n l = elim (step l) [ none ↦ Done n l | some m ↦ TooMany n ]
   halve space (suc left) n l =

@@ -1,5 +1,5 @@
--- What a halving inserts, pair by pair, as the Rust has it: between two given neighbours, and into a whole list. The steps of
--- `Halving` lead to the same list (proofs/Pairs.antt).
+-- What a halving inserts, pair by pair, as the Rust has it: between two given neighbours, and into a whole list. The
+-- steps of `Halving` lead to the same list (proofs/Pairs.antt).
 use Rattle.std.specs.Prelude.{◌≡◌, Bool, true, false, List, [], ◌∷◌, ◌++◌}
 
 module _ {A : Type 0} (divides : A → A → Bool) (mid : A → A → A) where

@@ -7,9 +7,11 @@ use lib.Ieee.Fits.{mul-fits, neg-fits, cond-fits}
 use Rattle.float.specs.Helpers.{nought, size_of}
 use Rattle.float.proofs.Commute.{add_commutes, mul_commutes, mul_neg}
 use Rattle.float.proofs.Order.{neg_neg}
+use Rattle.float.proofs.Sizes.{size_neg}
 use Rattle.trig.specs.Degrees.{plain}
 use Rattle.trig.proofs.DegreeZeros.{plain_back, plain_sign, nought_sign, one_sign}
 use Rattle.trig.proofs.WaveSteps.{lt_pos, lt_neg, swap}
+use Rattle.trig.proofs.DegreeBack.{neg_false}
 use Rattle.geometry.specs.declared.Turn.{Turn}
 use Rattle.geometry.specs.declared.Vec3.{Vec3}
 use Rattle.geometry.specs.Turn.{turned_back}
@@ -26,12 +28,6 @@ use Rattle.hirth.specs.Turning.{unscaled, quartered, part_turn, half_turns, towa
 use Rattle.hirth.specs.Profile.{tooth_swing, tooth_turns}
 
 -- ---- the angle negated
-size_neg : (x : Float) → size_of (neg x) ≡ size_of x
-unfolding size_of neg
-size_neg nan = refl
-size_neg (inf s) = refl
-size_neg (fin s m e) = refl
-
 doubled_back : (a : Float) → mul binary64 (neg a) two ≡ neg (mul binary64 a two)
 doubled_back a = mul_commutes binary64 (neg a) two ∙ mul_neg two a ∙ ap neg (mul_commutes binary64 two a)
 
@@ -75,10 +71,6 @@ still_back = refl
 neg_true : (m : ℕ) (e : ℤ) → neg (fin true m e) ≡ fin false m e
 unfolding neg
 neg_true m e = refl
-
-neg_false : (m : ℕ) (e : ℤ) → neg (fin false m e) ≡ fin true m e
-unfolding neg
-neg_false m e = refl
 
 -- ---- the turn toward and the turn back
 toward_back : (t : Turn) → T (fits binary64 t.sine) → backward (toward t true) ≡ toward t false

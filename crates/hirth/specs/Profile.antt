@@ -1,6 +1,7 @@
--- The positioning profile of a Hirth table. Each angle of the solution that `choose` gives goes to its nearest tooth; the
--- position is worked out again by `inverse`'s steps, with the turns of the teeth; the limits are tested again, and the reached
--- axis may differ from the wanted one by at most the tolerance. The order: 19, then all of `choose`, then 31.
+-- The positioning profile of a Hirth table. Each angle of the solution that `choose` gives goes to its nearest tooth;
+-- the position is worked out again by `inverse`'s steps, with the turns of the teeth; the limits are tested again, and
+-- the reached axis may differ from the wanted one by at most the tolerance. The order: 19, then all of `choose`, then
+-- 31.
 use Rattle.std.specs.Prelude.{Bool, cond, Float, Err, Ok, Result}
 use Rattle.std.specs.Float.Ieee as Ieee
 use Rattle.geometry.specs.declared.Turn.{Turn}

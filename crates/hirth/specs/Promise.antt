@@ -1,6 +1,6 @@
--- What the profile promises of its answer, whatever it is given: 31 exactly if the chosen solution, on its teeth, leaves a
--- rotary's limits or breaks the tolerance; 19 exactly if the tolerance is bad; every refusal of `choose` as it is; never 30; and
--- each angle that `choose` gives goes to its nearest half degree.
+-- What the profile promises of its answer, whatever it is given: 31 exactly if the chosen solution, on its teeth,
+-- leaves a rotary's limits or breaks the tolerance; 19 exactly if the tolerance is bad; every refusal of `choose` as it
+-- is; never 30; and each angle that `choose` gives goes to its nearest half degree.
 use Rattle.std.specs.Prelude.{◌≡◌, ℕ, true, false, T, ◌⊎◌, ◌↔◌, Float, Err, Ok, Result}
 use Rattle.std.specs.Float.{binary64}
 use Rattle.std.specs.Float.Ieee.{fits}

@@ -1,5 +1,5 @@
--- The nearest half degree: a half away from zero, a zero as +0.0. `NearestTooth` says in whole numbers what that is, and
--- proofs/HalfDegree.antt that `snapped` is it.
+-- The nearest half degree: a half away from zero, a zero as +0.0. `NearestTooth` says in whole numbers what that is,
+-- and proofs/HalfDegree.antt that `snapped` is it.
 use Rattle.std.specs.Prelude.{ℕ, zero, suc, ◌+◌, ◌*◌, ◌<◌, ◌≤◌, Bool, false, from_bits, Float}
 use Rattle.std.specs.Float.{binary64}
 use Rattle.std.specs.Float.Ieee.{add, mul}
@@ -27,8 +27,8 @@ abbrev pub sign_at : Bool → ℕ → Bool
 sign_at s zero = false
 sign_at s (suc h) = s
 
--- t is h half degrees, with the sign of a, for the whole number h nearest to twice the size of a: h - 1/2 ≤ 2 |a| < h + 1/2,
--- so that a half goes away from zero. Of no half degree t is +0.0
+-- t is h half degrees, with the sign of a, for the whole number h nearest to twice the size of a: h - 1/2 ≤ 2 |a| <
+-- h + 1/2, so that a half goes away from zero. Of no half degree t is +0.0
 pub record NearestTooth (a t : Float) : Type 0 where
   pub h : ℕ
   pub value : HasValue t (sign_at (negative a) h) h 2

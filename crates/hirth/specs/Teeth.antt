@@ -1,5 +1,6 @@
 -- The teeth: 181 whole numbers, the sine of 0 to 90 degrees in half degrees times 2 ^ 52, each nearest to document 01's
--- sine. That the rule holds of the table as a whole is `teeth-right` (proofs/Rule.antt), and of one entry `tooth-nearest`.
+-- sine. That the rule holds of the table as a whole is `teeth_right` (proofs/Rule.antt), and of one entry
+-- `tooth_nearest`.
 use Rattle.std.specs.Prelude.{ℕ, suc, ◌+◌, ◌-◌, ◌*◌, ◌^◌, ◌≤◌, Bool, true, false, ◌&&◌, List, [], ◌∷◌, nat_le, slice_index}
 use Rattle.trig.specs.Fraction.{Frac}
 use Rattle.trig.specs.Degrees.{degree_wave}

@@ -1,5 +1,5 @@
--- The turn by an angle that stands on a tooth: sine and cosine from the table, placed by the quarter turn, the sine negated
--- below zero, and no -0.0. What they are worth is `half-turns-near` (proofs/Placing.antt).
+-- The turn by an angle that stands on a tooth: sine and cosine from the table, placed by the quarter turn, the sine
+-- negated below zero, and no -0.0. What they are worth is `half_turns_near` (proofs/Placing.antt).
 use Rattle.std.specs.Prelude.{ℕ, ◌+◌, ◌/◌, ◌%◌, Bool, cond, not, pos, ◌==◌, from_bits, Float}
 use Rattle.std.specs.Float.{binary64}
 use Rattle.std.specs.Float.Ieee.{mul, neg, eq, lt, of_int, to_unsigned}

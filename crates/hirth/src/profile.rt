@@ -8,7 +8,7 @@ use crate::snapping::snapped_angles;
 use crate::turning::tooth_turn;
 use chain::{Joints, Kinematics, Prepared, ToolPose, Turns, demand};
 use geometry::Vec3;
-use inverse::{Angles, Choice};
+use inverse::{Angles, Choice, ReadyChain};
 use refusal::{Cause, Refusal};
 
 // As chain's `turns_of`, from the table.
@@ -52,22 +52,21 @@ fn held(
 }
 
 // A chosen solution on its teeth: by the steps of `inverse` for a pair of angles, with the turns of the teeth.
-// The chain is prepared anew, since `choose` prepares it behind its own checks and hands back joints alone.
 fn toothed(
-    k: Kinematics,
+    ready: &ReadyChain,
     pose: ToolPose,
     tool_length: f64,
     tolerance: f64,
     j: Joints,
 ) -> Result<Joints, Refusal>
-    ensures { result ≡ S.toothed k pose tool_length tolerance j }
+    ensures { result ≡ S.toothed ready.now.k pose tool_length tolerance j }
 {
-    let p = chain::prepare(k);
+    let p = ready.p;
     let angles = snapped_angles(j);
     let turns = tooth_turns(p, angles);
     let reached = inverse::pose_from(p, turns, tool_length);
     let placed = inverse::joints_from(p, turns, angles, pose.tip, reached.tip);
-    held(k, pose.axis, tolerance, reached.axis, placed)
+    held(ready.k, pose.axis, tolerance, reached.axis, placed)
 }
 
 // One of the joint sets that reach the pose, on its teeth, or the first refusal: Tolerance, then those of `choose`,
@@ -83,6 +82,7 @@ pub fn choose_tooth(
     ensures promised { Promise.Promised k pose tool_length choice tolerance result }
 {
     demand(divide::tolerance_good(tolerance), Cause::Tolerance, 0)?;
-    let j = inverse::choose(k, pose, tool_length, choice)?;
-    toothed(k, pose, tool_length, tolerance, j)
+    let ready = ReadyChain::of(k);
+    let j = inverse::choose_ready(&ready, pose, tool_length, choice)?;
+    toothed(&ready, pose, tool_length, tolerance, j)
 }

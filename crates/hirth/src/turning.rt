@@ -45,14 +45,9 @@ fn half_turns(h: u64) -> Turn
 fn toward(t: Turn, below: bool) -> Turn
     ensures { result ≡ S.toward t below }
 {
-    if below {
-        return Turn {
-            sine: -t.sine + 0.0,
-            cosine: t.cosine + 0.0,
-        };
-    }
+    let sine = if below { -t.sine } else { t.sine };
     Turn {
-        sine: t.sine + 0.0,
+        sine: sine + 0.0,
         cosine: t.cosine + 0.0,
     }
 }

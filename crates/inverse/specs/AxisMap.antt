@@ -1,5 +1,6 @@
 -- The orientation equation R(wa, x) R(wb, y) spindle = target for each mix of tables and heads.
--- Two tables: T⁻¹ = R(inner, -a) R(outer, -a). Two heads: H = R(outer, a) R(inner, a). A table and a head: T⁻¹ H = R(table, -a) R(head, a).
+-- Two tables: T⁻¹ = R(inner, -a) R(outer, -a). Two heads: H = R(outer, a) R(inner, a). A table and a head: T⁻¹ H =
+-- R(table, -a) R(head, a).
 use Rattle.std.specs.Prelude.{Bool, true, false, cond, Float}
 use Rattle.std.specs.Option.{unwrap_or}
 use Rattle.std.specs.Float.Ieee as Ieee

@@ -1,4 +1,5 @@
--- One of the solutions: the nearest to two angles, or the first whose first angle is at least -1e-9, or at most 1e-9; else the first of all.
+-- One of the solutions: the nearest to two angles, or the first whose first angle is at least -1e-9, or at most 1e-9;
+-- else the first of all.
 use Rattle.std.specs.Prelude.{Bool, true, cond, List, get_or, Float, Err, Ok, Result}
 use Rattle.std.specs.List.{fold, find}
 use Rattle.std.specs.Option.{unwrap_or}

@@ -1,4 +1,5 @@
--- Inverse: the raw angles of the target axis, their whole turns within the limits, and for each pair that puts the spindle within 1e-9 of the target the gauge position that puts the tip on its place.
+-- Inverse: the raw angles of the target axis, their whole turns within the limits, and for each pair that puts the
+-- spindle within 1e-9 of the target the gauge position that puts the tip on its place.
 use Rattle.std.specs.Prelude.{Bool, ◌&&◌, ◌||◌, cond, List, [], ◌∷◌, ltb, length, Float, Err, None, Ok, Option, Some, Result, is_some}
 use Rattle.std.specs.List.{list_all}
 use Rattle.std.specs.Float.Ieee as Ieee

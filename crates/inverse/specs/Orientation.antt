@@ -1,4 +1,5 @@
--- The rotary angles that put the spindle on a target axis, before whole turns and limits: none, one or two. A free angle takes the hint.
+-- The rotary angles that put the spindle on a target axis, before whole turns and limits: none, one or two. A free
+-- angle takes the hint.
 use Rattle.std.specs.Prelude.{cond, Float, None, Option, Some}
 use Rattle.std.specs.Float.Ieee as Ieee
 use Rattle.float.specs.Helpers.{nought, one}

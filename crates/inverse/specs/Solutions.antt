@@ -1,4 +1,5 @@
--- Joint sets in order. A sort by insertion: each goes before the first that it precedes, so that of two that tie the earlier stays first.
+-- Joint sets in order. A sort by insertion: each goes before the first that it precedes, so that of two that tie the
+-- earlier stays first.
 use Rattle.std.specs.Prelude.{Bool, true, false, cond, List, [], ◌∷◌}
 use Rattle.lists.specs.Fold.{fold}
 use Rattle.arrayvec.specs.ArrayVec.{ArrayVec}

@@ -1,4 +1,5 @@
--- Whole turns of the raw angles: each angle two turns back, one back, as it is, one on and two on, where its rotary may go; each first angle with each second one; a pair that is the same as an earlier one left out.
+-- Whole turns of the raw angles: each angle two turns back, one back, as it is, one on and two on, where its rotary may
+-- go; each first angle with each second one; a pair that is the same as an earlier one left out.
 use Rattle.std.specs.Prelude.{Bool, ◌&&◌, cond, List, [], ◌∷◌, ◌++◌, eqb, Float, None, Option, Some}
 use Rattle.std.specs.List.{list_any}
 use Rattle.std.specs.Float.Ieee as Ieee

@@ -3,8 +3,8 @@ ghost use Rattle.std.specs.Prelude.{◌≡◌};
 ghost use Rattle.std.specs.List.{find};
 ghost use Rattle.inverse.specs.Choose as S;
 
-use crate::inverse_map::inverse;
-use crate::{Angles, Choice, Ranked};
+use crate::inverse_map::inverse_ready;
+use crate::{Angles, Choice, Ranked, ReadyChain};
 use chain::{Joints, Kinematics, ToolPose};
 use refusal::Refusal;
 
@@ -106,8 +106,21 @@ impl Choice {
     }
 }
 
-// One of the joint sets that `inverse` gives, or its refusal.
+// `choose` of a chain that the caller has prepared.
 #[tactic(auto, unfolding(crate::specs::Choose::choose))]
+pub fn choose_ready(
+    ready: &ReadyChain,
+    pose: ToolPose,
+    tool_length: f64,
+    choice: Choice,
+) -> Result<Joints, Refusal>
+    ensures { result ≡ S.choose ready.now.k pose tool_length choice }
+{
+    let solutions = inverse_ready(ready, pose, tool_length, choice.hint())?;
+    Ok(choice.pick(&solutions))
+}
+
+// One of the joint sets that `inverse` gives, or its refusal.
 pub fn choose(
     k: Kinematics,
     pose: ToolPose,
@@ -116,6 +129,5 @@ pub fn choose(
 ) -> Result<Joints, Refusal>
     ensures { result ≡ S.choose k pose tool_length choice }
 {
-    let solutions = inverse(k, pose, tool_length, choice.hint())?;
-    Ok(choice.pick(&solutions))
+    choose_ready(&ReadyChain::of(k), pose, tool_length, choice)
 }

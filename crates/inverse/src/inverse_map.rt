@@ -6,7 +6,7 @@ ghost use Rattle.inverse.specs.Inverse as S;
 use crate::ordering::insert;
 use crate::orientation::orientation_angles;
 use crate::wraps::{expand_wraps, second_travel};
-use crate::{Angles, RawPair, Solutions};
+use crate::{Angles, Pairs, RawPair, ReadyChain, Solutions};
 use arrayvec::ArrayVec;
 use chain::{Joints, Kinematics, Prepared, ToolPose, Turns, demand, within};
 use geometry::Vec3;
@@ -48,9 +48,9 @@ pub fn joints_from(p: Prepared, turns: Turns, angles: Angles, tip: Vec3, tip0: V
     }
 }
 
-// The joints of a pair of angles, where they put the spindle on the target axis. The target and the tip are two, since
-// crate path has them in an `Aim`. A guard and no `then`: `(!misses(..)).then(|| joints_from(p, turns, ..))` is the
-// same test turned round.
+// The joints of a pair of angles, where they put the spindle on the target axis. The target and the tip are two and no
+// `ToolPose`: crate path would make one at each of its calls, `ToolPose { axis: aim.target, tip: aim.tip }`. A guard
+// and no `then`: `(!misses(..)).then(|| joints_from(p, turns, ..))` is the same test turned round.
 pub fn reached_at(
     p: Prepared,
     target: Vec3,
@@ -69,12 +69,11 @@ pub fn reached_at(
 }
 
 // Each pair in turn. The pose's axis is a unit vector, here and below.
-fn all_solutions(p: Prepared, pose: ToolPose, tool_length: f64, pairs: &[Angles]) -> Solutions
-    requires { length pairs.now ≤ 50 }
-    ensures { result.items ≡ S.solutions p pose.axis pose.tip tool_length pairs.now }
+fn all_solutions(p: Prepared, pose: ToolPose, tool_length: f64, pairs: &Pairs) -> Solutions
+    ensures { result.items ≡ S.solutions p pose.axis pose.tip tool_length pairs.now.items }
 {
     let mut solutions = ArrayVec::new();
-    for angles in pairs {
+    for angles in pairs.iter() {
         if let Some(j) = reached_at(p, pose.axis, pose.tip, tool_length, *angles) {
             insert(&mut solutions, j);
         }
@@ -102,25 +101,25 @@ fn solved_check(raw: RawPair, pairs: &[Angles], solutions: &[Joints]) -> Result<
     ensures { result ≡ S.solved_check raw pairs.now solutions.now }
 {
     demand(some_raw(raw), Cause::NotReachable, 0)?;
-    demand(0 < pairs.len(), Cause::OutsideLimits, 0)?;
+    demand(!pairs.is_empty(), Cause::OutsideLimits, 0)?;
     demand(positions_finite(solutions), Cause::NotFinite, 0)?;
-    demand(0 < solutions.len(), Cause::NotReachable, 0)
+    demand(!solutions.is_empty(), Cause::NotReachable, 0)
 }
 
 // The answers of a checked chain.
 #[tactic(auto, unfolding(crate::specs::Inverse::solved, crate::specs::Inverse::raw_angles, crate::specs::Inverse::wrapped))]
 fn solved(
-    k: Kinematics,
+    ready: &ReadyChain,
     pose: ToolPose,
     tool_length: f64,
     hint: Angles,
 ) -> Result<Solutions, Refusal>
-    ensures { result ≡ S.solved k pose.axis pose.tip tool_length hint }
+    ensures { result ≡ S.solved ready.now.k pose.axis pose.tip tool_length hint }
 {
-    let p = chain::prepare(k);
-    let raw = orientation_angles(p, pose.axis, hint);
+    let k = ready.k;
+    let raw = orientation_angles(ready.p, pose.axis, hint);
     let pairs = expand_wraps(k.first.limits, second_travel(k), raw);
-    let solutions = all_solutions(p, pose, tool_length, &pairs);
+    let solutions = all_solutions(ready.p, pose, tool_length, &pairs);
     solved_check(raw, &pairs, &solutions)?;
     Ok(solutions)
 }
@@ -170,9 +169,24 @@ fn inverse_check(
     )
 }
 
+// `inverse` of a chain that the caller has prepared.
+#[tactic(auto, unfolding(crate::specs::Inverse::inverse))]
+pub fn inverse_ready(
+    ready: &ReadyChain,
+    pose: ToolPose,
+    tool_length: f64,
+    hint: Angles,
+) -> Result<Solutions, Refusal>
+    ensures value { result ≡ S.inverse ready.now.k pose tool_length hint }
+    ensures count { IfOk result (λ s. length s.items ≤ 50) }
+{
+    inverse_check(ready.k, pose, tool_length, hint)?;
+    let axis = geometry::unit_direction(pose.axis).ok_or(Refusal::new(Cause::ToolAxisZero, 0))?;
+    solved(ready, ToolPose { axis, ..pose }, tool_length, hint)
+}
+
 // Every joint set that reaches the pose, in order, or the first refusal. The four parameters are C's, as those of
 // `choose`: the caller has them apart, and `inverse(Asked { k, pose, tool_length, hint })` would be no shorter.
-#[tactic(auto, unfolding(crate::specs::Inverse::inverse))]
 pub fn inverse(
     k: Kinematics,
     pose: ToolPose,
@@ -182,9 +196,5 @@ pub fn inverse(
     ensures value { result ≡ S.inverse k pose tool_length hint }
     ensures count { IfOk result (λ s. length s.items ≤ 50) }
 {
-    inverse_check(k, pose, tool_length, hint)?;
-    let Some(axis) = geometry::unit_direction(pose.axis) else {
-        return Err(Refusal::new(Cause::ToolAxisZero, 0));
-    };
-    solved(k, ToolPose { axis, ..pose }, tool_length, hint)
+    inverse_ready(&ReadyChain::of(k), pose, tool_length, hint)
 }

@@ -3,6 +3,7 @@
 #![tactic(auto)]
 
 ghost use Rattle.std.specs.Prelude.{◌≡◌};
+ghost use Rattle.chain.specs.Prepared.{prepared};
 ghost use Rattle.inverse.specs.UpToTwo as S;
 ghost use Rattle.inverse.specs.Wraps.{angles_in};
 
@@ -16,8 +17,8 @@ mod wraps;
 
 use arrayvec::ArrayVec;
 pub use axis_map::{axis_map_of, parallel_axes};
-use chain::Joints;
-pub use choosing::choose;
+use chain::{Joints, Kinematics, Prepared};
+pub use choosing::{choose, choose_ready};
 use geometry::Vec3;
 pub use inverse_map::{angles_within, inverse, joints_from, misses, pose_from, reached_at};
 pub use ordering::{compare, precedes};
@@ -97,8 +98,26 @@ pub type Pairs = ArrayVec<Angles, 50>;
 // Joint sets in order.
 pub type Solutions = ArrayVec<Joints, 50>;
 
+// A chain with what it is prepared to: crate hirth needs that for the teeth too, and so it is made once.
+#[derive(Clone, Copy)]
+pub struct ReadyChain {
+    pub k: Kinematics,
+    pub p: Prepared,
+    pub ghost made: { p ≡ prepared k },
+}
+
+impl ReadyChain {
+    pub fn of(k: Kinematics) -> ReadyChain
+        ensures { result.k ≡ k }
+    {
+        let p = chain::prepare(k);
+        ReadyChain { k, p }
+    }
+}
+
 // Which solution `choose` takes: the nearest to two angles, or the first whose first angle is not below or not above
-// zero. No closure: a caller in C says it by a number, so that the ways are these three.
+// zero. No closure: a caller in C says it by a number, so that the ways are these three. `Nearest` holds two numbers
+// and no `Angles`: document 01 names that form.
 #[derive(Clone, Copy)]
 pub enum Choice {
     Nearest(f64, f64),

@@ -24,7 +24,8 @@ pub fn precedes(j: Joints, k: Joints) -> bool
     compare(j, k).is_lt()
 }
 
-// How many stand before the first that j precedes.
+// How many stand before the first that j precedes. No `partition_point`: what it answers is known of a list in order
+// alone, which each caller would have to show; here it is known of every list, and 50 at most are looked at.
 fn place_of(solutions: &[Joints], j: Joints) -> usize
     ensures place { result ≡ position_or_len (S.precedes j) solutions.now }
     ensures within { result ≤ length solutions.now }

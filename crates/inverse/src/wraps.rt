@@ -15,15 +15,12 @@ fn principal(angle: f64) -> bool
     -180.0 < angle && angle <= 180.0
 }
 
-// Within the limits, or principal where there are none. No `map_or_else`: it would have the two arms in closures, the
-// one for `None` first. As `permits` of crate path but for the last test, and a line there says why both stand.
+// Within the limits, or principal where there are none. As `permits` of crate path but for the last test, and a line
+// there says why both stand.
 fn allowed(travel: Option<RotaryLimits>, angle: f64) -> bool
     ensures { result ≡ S.allowed travel angle }
 {
-    match travel {
-        Some(limits) => limits.contains(angle),
-        None => principal(angle),
-    }
+    travel.map_or(principal(angle), |limits| limits.contains(angle))
 }
 
 #[tactic(auto, unfolding(crate::specs::Wraps::keep_allowed))]
@@ -63,8 +60,8 @@ fn has(pairs: &[Angles], pair: Angles) -> bool
     pairs.iter().any(|have| same_angles(*have, pair))
 }
 
-// A pair of which there is none the same yet. The room in `pairs` is a clause and no type of its own: here and in the
-// three functions below each asks for another room, that for one pair, for 5, for 25.
+// A pair of which there is none the same yet. The room in `pairs` is a clause and no type of its own: here it is that
+// for one pair, in `add_row` for 5, in `add_rows` and `add_raw` for 25, and a type would say one of the three.
 #[tactic(auto, unfolding(crate::specs::Wraps::add_pair))]
 fn add_pair(a0: f64, pairs: &mut Pairs, a1: f64)
     requires { length pairs.old.items < 50 }
@@ -78,24 +75,22 @@ fn add_pair(a0: f64, pairs: &mut Pairs, a1: f64)
 }
 
 // One first angle with every second one.
-fn add_row(second: &[f64], pairs: &mut Pairs, a0: f64)
-    requires few { length second.now ≤ 5 }
-    requires room { length pairs.old.items + 5 ≤ 50 }
-    ensures list { pairs.new.items ≡ S.add_row second.now pairs.old.items a0 }
+fn add_row(second: &Candidates, pairs: &mut Pairs, a0: f64)
+    requires { length pairs.old.items + 5 ≤ 50 }
+    ensures list { pairs.new.items ≡ S.add_row second.now.items pairs.old.items a0 }
     ensures count { length pairs.new.items ≤ length pairs.old.items + 5 }
 {
-    for a1 in second {
+    for a1 in second.iter() {
         add_pair(a0, pairs, *a1);
     }
 }
 
-fn add_rows(first: &[f64], second: &[f64], pairs: &mut Pairs)
-    requires few { (length first.now ≤ 5) × (length second.now ≤ 5) }
-    requires room { length pairs.old.items + 25 ≤ 50 }
-    ensures list { pairs.new.items ≡ S.add_rows first.now second.now pairs.old.items }
+fn add_rows(first: &Candidates, second: &Candidates, pairs: &mut Pairs)
+    requires { length pairs.old.items + 25 ≤ 50 }
+    ensures list { pairs.new.items ≡ S.add_rows first.now.items second.now.items pairs.old.items }
     ensures count { length pairs.new.items ≤ length pairs.old.items + 25 }
 {
-    for a0 in first {
+    for a0 in first.iter() {
         add_row(second, pairs, *a0);
     }
 }

@@ -1,26 +1,26 @@
 -- What a job that was read says of its bytes: chain and poses lie before the trailer, and apart.
-use Rattle.std.proofs.Common.{◌≡◌, ℕ, zero, suc, ◌+◌, ◌-◌, ◌*◌, ◌<◌, ◌≤◌, Bool, true, false, cond, not, ◌||◌, eqb, ltb, leb, ◌⊎◌, List, length, get_or, refl, inl, inr, arith, lit≤, ltb-false, ltb-true, eqb-true, leb-true}
+use Rattle.std.proofs.Common.{◌≡◌, ℕ, zero, suc, ◌+◌, ◌-◌, ◌*◌, ◌<◌, ◌≤◌, Bool, true, false, cond, not, ◌||◌, eqb, ltb, leb, ◌⊎◌, List, length, take, get_or, slice_range, w32, refl, inl, inr, arith, lit≤, ltb-false, ltb-true, eqb-true, leb-true}
 use mathlib.Core.Bool.{and-eq-true_iff, false≢true}
 use borrow.Author.Tests.{not-true}
 use Rattle.std.specs.Prelude.{Err, Ok}
+use Rattle.std.specs.Int.{from_le_bytes}
 use Rattle.refusal.specs.declared.Cause.{Cause}
 use Rattle.chain.specs.Checked.{Checked}
 use Rattle.chain.specs.Bytes.{byte_at, little_endian}
 use Rattle.chain.specs.Check.{demand, one_or_two}
 use Rattle.chain.specs.ChainBytes.{length_of_chain}
-use Rattle.chain.proofs.Bytes.{at_least_one}
+use Rattle.chain.proofs.Bytes.{at_least_one, chunk_byte}
 use Rattle.chain.proofs.Passing.{then_passed, demand_passed}
-use Rattle.job.specs.JobBytes.{four, trailer, word_length, sized, places_in, chain_end, poses_end, apart, placed, chain_in, job_at, job_unless, job_fields, job_from, read_job}
+use Rattle.job.specs.JobBytes.{trailer, word_length, sized, places_in, chain_end, poses_end, apart, placed, chain_in, job_at, job_unless, job_fields, job_from, read_job}
 use Rattle.job.specs.declared.Places.{Places}
 use Rattle.job.specs.declared.Job.{Job}
 
--- four bytes
-pub four_is : (l : List ℕ) (at : ℕ)
-    → four (get_or l at 0) (get_or l (at + 1) 0) (get_or l (at + 2) 0) (get_or l (at + 3) 0) ≡ little_endian 4 l at
+-- the four bytes from `at` on, as a word
+pub chunk_four : (l ys : List ℕ) (at : ℕ) → ys ≡ take 4 (slice_range l at (at + 4)) → from_le_bytes w32 ys ≡ little_endian 4 l at
 unfolding little_endian
-four_is l at =
-    let e : at + 0 ≡ at = omega arith in
-    rw e (omega arith)
+chunk_four l ys at e =
+    let b : (i : ℕ) → i < 4 → get_or ys i 0 ≡ get_or l (at + i) 0 = λ i lt. rw e (chunk_byte l at 4 i lt) in
+    omega (arith, b 0 (omega arith), b 1 (omega arith), b 2 (omega arith), b 3 (omega arith))
 
 -- ---- the length
 pub sized_least : (n : ℕ) → sized n ≡ true → 40 ≤ n

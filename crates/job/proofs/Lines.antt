@@ -1,8 +1,9 @@
 -- Laws of the lines of a path's text: their lengths, what is put one behind the other, and the loops over them.
-use Rattle.std.proofs.Common.{◌≡◌, ℕ, zero, suc, ◌+◌, ◌-◌, ◌*◌, ◌/◌, ◌<◌, ◌≤◌, true, false, List, [], ◌∷◌, ◌++◌, length, drop, refl, ap, add-zero, add-suc, add-one, arith, length-append, drop-drop, le-leb}
+use Rattle.std.proofs.Common.{◌≡◌, ℕ, zero, suc, ◌+◌, ◌-◌, ◌*◌, ◌/◌, ◌<◌, ◌≤◌, true, false, List, [], ◌∷◌, ◌++◌, length, drop, sym, refl, ap, ◌∙◌, add-zero, add-suc, add-one, arith, length-append, drop-drop, le-leb}
 use native.Mathlib.Nat.{sub-zero}
 use borrow.Author.Tests.{lt-leb}
 use lib.Ieee.{Float}
+use Rattle.std.specs.Prelude.{None, Option, Some, SomeIff}
 use Rattle.lists.specs.Rows.{rows}
 use Rattle.chain.specs.declared.Joints.{Joints}
 use Rattle.turn.specs.Items.{joints_from, joints_in}
@@ -92,6 +93,17 @@ module _ {l : List Float} {first : Page} where
       f.whole (rw s (put_none p))
 
 -- ---- the loop that looks for room
+-- what the library's difference says by being there, and by not being there
+pub some_left : {a b k : ℕ} {left : Option ℕ} → SomeIff left (b ≤ a) (a - b) → left ≡ Some k → (b ≤ a) × (k ≡ a - b)
+some_left {left = None} h e = cc
+some_left {k = k} {left = Some j} h e =
+    let i : j ≡ k = cc in
+    (h.0, sym i ∙ h.1)
+
+pub none_left : {a b : ℕ} {left : Option ℕ} → SomeIff left (b ≤ a) (a - b) → left ≡ None → a < b
+none_left {left = None} h e = omega (arith, h)
+none_left {left = Some k} h e = cc
+
 pub record Fitting (n used room left i : ℕ) : Type 0 where
   pub within : i ≤ n
   pub whole : used + lines_length i + left ≡ room

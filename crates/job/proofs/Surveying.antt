@@ -1,14 +1,15 @@
--- The loop over a path's joint sets, as one fold; and what it comes to, field by field.
-use Rattle.std.proofs.Common.{◌≡◌, ℕ, ◌+◌, ◌*◌, ◌/◌, ◌<◌, ◌≤◌, Bool, true, false, ◌&&◌, List, [], ◌∷◌, length, take, sym, refl, ap, ◌∙◌, arith, take_all}
+-- The fold over a path's joint sets: what it comes to, field by field, and that it may go over chunks of numbers.
+use Rattle.std.proofs.Common.{◌≡◌, ℕ, zero, suc, ◌/◌, Bool, true, false, ◌&&◌, List, [], ◌∷◌, length, drop, refl, ap, ◌∙◌}
 use lib.Ieee.{Float}
+use Rattle.std.specs.List as Std
+use Rattle.std.specs.Simd.{first_chunks}
 use Rattle.lists.specs.Fold.{fold}
 use Rattle.lists.specs.Rows.{rows}
 use Rattle.lists.specs.Search.{all}
-use Rattle.lists.proofs.Fold.{Folding, folding_start, folding_step, folding_end}
-use Rattle.lists.proofs.Rows.{length_rows, get_or_rows}
 use Rattle.chain.specs.declared.Joints.{Joints}
 use Rattle.chain.specs.Check.{joints_finite, joints_within}
 use Rattle.turn.specs.Items.{joints_from, joints_in}
+use Rattle.turn.proofs.Chunks.{front}
 use Rattle.job.specs.Cable.{joint_sets, wind_of, turns_within, larger, most_turns, also, surveyed, survey}
 use Rattle.job.specs.declared.Survey.{Survey}
 
@@ -38,21 +39,14 @@ survey_is : (rest : Float) (rotary : ℕ) (l : List Joints) → fold (surveyed r
 unfolding survey most_turns
 survey_is rest rotary l = by_field rest rotary unread l ∙ rw (fold_also joints_finite true l, fold_also joints_within true l)
 
--- ---- the loop
-abbrev pub Surveying : Float → ℕ → List Float → ℕ → Survey → ℕ → Type 0
-Surveying rest rotary l n s i = (n ≡ length l / 5) × Folding (surveyed rest rotary) unread (rows 5 joints_from n l) n s i
+-- ---- over chunks of five numbers, which are the joint sets
+chunks_surveyed : (rest : Float) (rotary n : ℕ) (s : Survey) (l : List Float) → Std.fold (λ s c. surveyed rest rotary s (joints_in c 0)) s (first_chunks 5 n l) ≡ fold (surveyed rest rotary) s (rows 5 joints_from n l)
+unfolding rows fold joints_in
+chunks_surveyed rest rotary zero s l = refl
+chunks_surveyed rest rotary (suc n) s l =
+    ap (λ (j : Joints). Std.fold (λ s c. surveyed rest rotary s (joints_in c 0)) (surveyed rest rotary s j) (first_chunks 5 n (drop 5 l))) (front l)
+    ∙ chunks_surveyed rest rotary n (surveyed rest rotary s (joints_from l)) (drop 5 l)
 
-module _ (rest : Float) (rotary : ℕ) (l : List Float) where
-  pub surveying_start : Surveying rest rotary l (length l / 5) unread 0
-  surveying_start = (refl, folding_start (rw length_rows (omega arith)))
-
-  pub surveying_step : {n i : ℕ} {s t : Survey} {j : Joints} → i < n → Surveying rest rotary l n s i → j ≡ joints_in l (i * 5) → t ≡ surveyed rest rotary s j → Surveying rest rotary l n t (i + 1)
-  unfolding joints_in
-  surveying_step {n} {i} {s} {t} {j} h f e g =
-      (f.0, folding_step (joints_from l) h f.1 (g ∙ ap (surveyed rest rotary s) (e ∙ sym (get_or_rows 5 joints_from n l i (joints_from l) h))))
-
-  pub surveying_end : {n i : ℕ} {s : Survey} → n ≤ i → Surveying rest rotary l n s i → s ≡ survey rest rotary (joint_sets l)
-  unfolding joint_sets
-  surveying_end {n} {i} {s} h f =
-      let e : take n (rows 5 joints_from n l) ≡ rows 5 joints_from n l = take_all n (rows 5 joints_from n l) (rw length_rows (omega arith)) in
-      rw (← f.0) (folding_end h f.1 ∙ ap (fold (surveyed rest rotary) unread) e ∙ survey_is rest rotary (rows 5 joints_from n l))
+pub survey_chunks : (rest : Float) (rotary : ℕ) (l : List Float) → Std.fold (λ s c. surveyed rest rotary s (joints_in c 0)) unread (first_chunks 5 (length l / 5) l) ≡ survey rest rotary (joint_sets l)
+unfolding joint_sets
+survey_chunks rest rotary l = chunks_surveyed rest rotary (length l / 5) unread l ∙ survey_is rest rotary (rows 5 joints_from (length l / 5) l)

@@ -1,15 +1,17 @@
 -- Two angles of at most 36,000 degrees differ, in floats, by at most 72,000: of every two floats, doubles or not. So
 -- every wind of a path that passes the checks is counted.
-use Rattle.std.proofs.Common.{◌≡◌, ℕ, zero, suc, ◌+◌, ◌-◌, ◌*◌, ◌^◌, ◌<◌, ◌≤◌, Bool, true, false, cond, not, ◌&&◌, ◌||◌, eqb, ltb, ℤ, sym, refl, ap, ◌∙◌, mul-pos, arith, ltb-true, eqb-true}
+use Rattle.std.proofs.Common.{◌≡◌, ℕ, zero, suc, ◌+◌, ◌-◌, ◌*◌, ◌^◌, ◌<◌, ◌≤◌, Bool, true, false, cond, not, ◌&&◌, ltb, ℤ, pos, sym, refl, ap, ◌∙◌, mul-pos, arith}
 use mathlib.Core.Bool.{beq, false≢true}
-use lib.Ieee.{Float, nan, inf, fin, binary64, up, down, odd, units, round, neg, sum, add, sub, lt, eq, le, of_bits}
+use lib.Ieee.{Float, nan, inf, fin, binary64, up, down, odd, units, round, neg, sum, add, sub, le, of_bits}
 use lib.Ieee.Bits.{is_true}
 use lib.Ieee.Fits.{down_pos, round_is}
 use lib.Ieee.Order.{round_mono}
 use Rattle.float.specs.Helpers.{size_of}
 use Rattle.float.proofs.Signed.{round_neg}
+use Rattle.float.proofs.Sizes.{size_neg}
 use Rattle.chain.specs.Check.{within, most_turned}
 use Rattle.job.specs.Cable.{most_wound}
+use Rattle.job.proofs.Turns.{at_most, no_nan, no_inf}
 
 -- ---- the size of what is rounded
 odd_size : (d q k l : ℕ) → size_of (odd d false q k l) ≡ odd d false q k l
@@ -24,12 +26,6 @@ units_size q k = go (ltb (q * 2 ^ k) (2 ^ 2098))
     go : (b : Bool) → size_of (cond b (odd 54 false q k 1074) (inf false)) ≡ cond b (odd 54 false q k 1074) (inf false)
     go true = odd_size 54 q k 1074
     go false = unfold size_of in refl
-
-size_neg : (x : Float) → size_of (neg x) ≡ size_of x
-unfolding size_of neg
-size_neg nan = refl
-size_neg (inf s) = refl
-size_neg (fin s m e) = refl
 
 plain_size : (x c : ℕ) → size_of (round binary64 false x c) ≡ round binary64 false x c
 plain_size x c = ap size_of (round_is binary64 false x c) ∙ units_size _ _ ∙ sym (round_is binary64 false x c)
@@ -54,22 +50,11 @@ summed s t a b c p h l = go (beq s t) (ltb a b)
     go false false = rounded (s && ltb b a) (a - b) c p (omega (arith, h))
 
 -- ---- an angle of at most 36,000 degrees
-either : (a b : ℕ) (s x y : Bool) → ltb a b ≡ x → eqb a b ≡ y → (x || (y && s)) ≡ true → a ≤ b
-either a b s true y p q h = let l = ltb-true a b p in omega (arith, l)
-either a b s false true p q h = let l = eqb-true a b q in omega (arith, l)
-either a b s false false p q h = absurd (false≢true h)
+turned : most_turned ≡ fin false 1125 (pos 5)
+turned = unfold of_bits in refl
 
-at_most : (m : ℕ) (e : ℤ) → le (fin false m e) most_turned ≡ true → m * up e ≤ 36000 * down e
-unfolding le lt eq of_bits
-at_most m e h = let l = either (m * up e * 1) (36000 * down e) _ (ltb (m * up e * 1) (36000 * down e)) (eqb (m * up e * 1) (36000 * down e)) refl refl h in omega (arith, l)
-
-no_nan : le nan most_turned ≡ false
-unfolding le lt eq
-no_nan = refl
-
-no_inf : le (inf false) most_turned ≡ false
-unfolding le lt eq of_bits
-no_inf = refl
+turned_most : (m : ℕ) (e : ℤ) → le (fin false m e) most_turned ≡ true → m * up e ≤ 36000 * down e
+turned_most m e h = at_most 1125 5 m e (rw turned at h)
 
 cross : (u v d : ℕ) → u ≤ 36000 * v → u * d ≤ 36000 * (v * d)
 cross u v d h = native.Mathlib.Nat.le_trans (native.Mathlib.Nat.mul-le-mul_right d h) (omega arith)
@@ -79,13 +64,13 @@ cross' u v d h = native.Mathlib.Nat.le_trans (native.Mathlib.Nat.mul-le-mul_righ
 
 pub wind_within : (a r : Float) → within a most_turned ≡ true → within r most_turned ≡ true → within (sub binary64 a r) most_wound ≡ true
 unfolding within size_of
-wind_within nan r h l = absurd (false≢true (sym no_nan ∙ h))
-wind_within (inf s) r h l = absurd (false≢true (sym no_inf ∙ h))
-wind_within (fin s m e) nan h l = absurd (false≢true (sym no_nan ∙ l))
-wind_within (fin s m e) (inf t) h l = absurd (false≢true (sym no_inf ∙ l))
+wind_within nan r h l = absurd (false≢true (sym (no_nan most_turned) ∙ h))
+wind_within (inf s) r h l = absurd (false≢true (sym (no_inf 1125 5) ∙ rw turned at h))
+wind_within (fin s m e) nan h l = absurd (false≢true (sym (no_nan most_turned) ∙ l))
+wind_within (fin s m e) (inf t) h l = absurd (false≢true (sym (no_inf 1125 5) ∙ rw turned at l))
 wind_within (fin s m e) (fin t n d) h l =
     ap (λ (z : Float). le (size_of z) most_wound) opened
-    ∙ summed s (not t) (m * up e * down d) (n * up d * down e) (down e * down d) (mul-pos (down_pos e) (down_pos d)) (cross (m * up e) (down e) (down d) (at_most m e h)) (cross' (n * up d) (down d) (down e) (at_most n d l))
+    ∙ summed s (not t) (m * up e * down d) (n * up d * down e) (down e * down d) (mul-pos (down_pos e) (down_pos d)) (cross (m * up e) (down e) (down d) (turned_most m e h)) (cross' (n * up d) (down d) (down e) (turned_most n d l))
   where
     opened : sub binary64 (fin s m e) (fin t n d) ≡ sum binary64 s (m * up e * down d) (not t) (n * up d * down e) (down e * down d)
     opened = unfold sub in unfold add in unfold neg in refl

@@ -1,7 +1,7 @@
 -- Laws of texts: one behind another, a digit before the rest, and the widths of numbers.
-use Rattle.std.proofs.Common.{◌≡◌, ℕ, zero, suc, ◌+◌, ◌-◌, ◌*◌, ◌/◌, ◌%◌, ◌^◌, ◌<◌, ◌≤◌, Bool, true, false, not, ◌&&◌, cond, ltb, List, [], ◌∷◌, ◌++◌, length, take, drop, set, sym, refl, ap, ◌∙◌, add-zero, div-lt_iff_lt-mul, add-one, arith, eq-eqb, append_assoc, length-append, length-set, take-append-drop, drop-set-lt, ltb-false, ltb-true, le-ltb, lt-ltb}
-use native.Mathlib.Nat.{pow-succ'}
-use lib.Seq.{set_comm}
+use Rattle.std.proofs.Common.{◌≡◌, ℕ, zero, suc, ◌+◌, ◌-◌, ◌*◌, ◌/◌, ◌%◌, ◌^◌, ◌<◌, ◌≤◌, Bool, true, false, not, ◌&&◌, cond, ltb, List, [], ◌∷◌, ◌++◌, length, take, drop, set, sym, refl, ap, ◌∙◌, add-zero, div-lt_iff_lt-mul, add-one, arith, eq-eqb, take_all, append_assoc, length-append, length-set, take-append-drop, drop-set-lt, ltb-false, ltb-true, le-ltb, lt-ltb}
+use native.Mathlib.Nat.{pow-succ', div-div-eq-div-mul}
+use Rattle.std.specs.Prelude.{IfNone, IfSome, None, Option, Some, unwrap_or}
 use Rattle.std.specs.Fmt as Fmt
 use Rattle.std.proofs.lemmas.Fmt.{decimal_by_steps}
 use Rattle.lists.proofs.Fold.{pushed}
@@ -24,18 +24,6 @@ written_append l at [] u = ap (λ (k : ℕ). written l k u) (sym (add-zero at))
 written_append l at (b ∷ t) u =
     let e : at + 1 + length t ≡ at + suc (length t) = omega arith in
     written_append (set l at b) (at + 1) t u ∙ ap (λ (k : ℕ). written (written (set l at b) (at + 1) t) k u) e
-
--- a byte behind a text may be stored first
-set_behind : (l : List ℕ) (at i b : ℕ) (t : List ℕ) → at + length t ≤ i → set (written l at t) i b ≡ written (set l i b) at t
-unfolding written
-set_behind l at i b [] h = refl
-set_behind l at i b (x ∷ t) h =
-    let k : at + suc (length t) ≤ i = h in
-    set_behind (set l at x) (at + 1) i b t (omega (arith, k)) ∙ ap (λ (m : List ℕ). written m (at + 1) t) (set_comm l at i x b (λ e. absurd (omega (arith, k, e))))
-
-pub written_last : (l : List ℕ) (at : ℕ) (t : List ℕ) (b : ℕ) → written l at (t ++ (b ∷ [])) ≡ written (set l (at + length t) b) at t
-unfolding written
-written_last l at t b = written_append l at t (b ∷ []) ∙ set_behind l at (at + length t) b t (omega arith)
 
 -- ---- a text behind another
 pub fits_first : {p : Page} {t : List ℕ} (u : List ℕ) → Fits p (t ++ u) → Fits p t
@@ -86,38 +74,46 @@ unfolding digits
 length_digits base zero x = refl
 length_digits base (suc n) x = rw (length-append, length_digits base n (x / base)) (add-one n)
 
-last_digit : (base : ℕ) (l : List ℕ) (at i rest : ℕ) → written l at (digits base (suc i) rest) ≡ written (set l (at + i) (digit (rest % base))) at (digits base i (rest / base))
-unfolding digits
-last_digit base l at i rest = rw (written_last l at (digits base i (rest / base)) (digit (rest % base)), length_digits base i (rest / base))
+-- the loop that puts 16 of them in hexadecimal: the first i are those of x without its last 64 - 4 * i bits
+pub record Digits (x : ℕ) (l : List ℕ) (i : ℕ) : Type 0 where
+  pub within : i ≤ 16
+  pub as_long : length l ≡ 16
+  pub front : take i l ≡ digits 16 i (x / 2 ^ (64 - 4 * i))
 
--- the loop that puts 16 of them, the last one first
-pub record Digits (x : ℕ) (o : List ℕ) (at : ℕ) (l : List ℕ) (rest i : ℕ) : Type 0 where
-  pub few : i ≤ 16
-  pub room : at + 16 ≤ length o
-  pub as_long : length l ≡ length o
-  pub whole : written l at (digits 16 i rest) ≡ written o at (digits 16 16 x)
+four_bits : (k : ℕ) → 2 ^ suc (suc (suc (suc k))) ≡ 2 ^ k * 16
+four_bits k =
+    let a = pow-succ' 2 (suc (suc (suc k))) in
+    let b = pow-succ' 2 (suc (suc k)) in
+    let c = pow-succ' 2 (suc k) in
+    let d = pow-succ' 2 k in
+    omega (arith, a, b, c, d)
 
-module _ {x : ℕ} {o : List ℕ} {at : ℕ} where
-  pub digits_start : at + 16 ≤ length o → Digits x o at o x 16
-  digits_start r = record { few = omega arith; room = r; as_long = refl; whole = refl }
+module _ {x : ℕ} where
+  pub digits_start : {l : List ℕ} → length l ≡ 16 → Digits x l 0
+  unfolding digits
+  digits_start e = record { within = omega arith; as_long = e; front = refl }
 
-  pub digits_step : {l : List ℕ} {rest i d : ℕ} → 0 < i → Digits x o at l rest i → d ≡ digit (rest % 16) → Digits x o at (set l (at + (i - 1)) d) (rest / 16) (i - 1)
-  digits_step {l} {rest} {i} {d} h f e =
-      let s : i ≡ suc (i - 1) = omega (arith, h) in
-      let k = f.few in
-      let g : written l at (digits 16 (suc (i - 1)) rest) ≡ written o at (digits 16 16 x) = rw (← s) f.whole in
+  pub digits_step : {l : List ℕ} {i d : ℕ} → i < 16 → Digits x l i → d ≡ digit (x / 2 ^ (60 - 4 * i) % 16) → Digits x (set l i d) (i + 1)
+  unfolding digits
+  digits_step {l} {i} {d} h f e =
+      let a = f.as_long in
+      let k : 64 - 4 * (i + 1) ≡ 60 - 4 * i = omega arith in
+      let m : 64 - 4 * i ≡ suc (suc (suc (suc (60 - 4 * i)))) = omega (arith, h) in
+      let q : x / 2 ^ (60 - 4 * i) / 16 ≡ x / 2 ^ (64 - 4 * i) = rw (m, four_bits) (div-div-eq-div-mul x (2 ^ (60 - 4 * i)) 16) in
+      let last : digits 16 (i + 1) (x / 2 ^ (64 - 4 * (i + 1))) ≡ digits 16 i (x / 2 ^ (64 - 4 * i)) ++ (digit (x / 2 ^ (60 - 4 * i) % 16) ∷ []) = rw (k, add-one, q) refl in
       record {
-        few = omega (arith, k);
-        room = f.room;
-        as_long = length-set l (at + (i - 1)) d ∙ f.as_long;
-        whole = rw e (sym (last_digit 16 l at (i - 1) rest) ∙ g);
+        within = omega (arith, h);
+        as_long = length-set l i d ∙ a;
+        front = pushed l i d (omega (arith, h, a)) ∙ rw (f.front, e) (sym last);
       }
 
-  pub digits_end : {l : List ℕ} {rest i : ℕ} → i ≤ 0 → Digits x o at l rest i → l ≡ written o at (digits 16 16 x)
-  unfolding digits written
-  digits_end {l} {rest} {i} h f =
-      let z : i ≡ 0 = omega (arith, h) in
-      rw z at f.whole
+  pub digits_end : {l : List ℕ} {i : ℕ} → 16 ≤ i → Digits x l i → l ≡ digits 16 16 x
+  digits_end {l} {i} h f =
+      let w = f.within in
+      let z : i ≡ 16 = omega (arith, h, w) in
+      let g : take 16 l ≡ digits 16 16 (x / 1) = rw z at f.front in
+      let o : x / 1 ≡ x = omega arith in
+      sym (take_all 16 l (omega (arith, f.as_long))) ∙ g ∙ ap (digits 16 16) o
 
 -- ---- widths
 enough : (n m x : ℕ) → x ≤ n → x ≤ m → width_within n x ≡ width_within m x
@@ -186,12 +182,17 @@ power_some (suc k) =
     let h = power_some k in
     omega (arith, p, h)
 
-pub width_is : (k x : ℕ) → 10 ^ k ≤ x → x < 10 * 10 ^ k → width x ≡ suc k
+width_is : (k x : ℕ) → 10 ^ k ≤ x → x < 10 * 10 ^ k → width x ≡ suc k
 width_is zero x h l = width_small x (omega (arith, l))
 width_is (suc k) x h l =
     let p : 10 ^ suc k ≡ 10 * 10 ^ k = pow-succ' 10 k in
     let some = power_some k in
     width_more x (omega (arith, h, p, some)) ∙ ap suc (width_is k (x / 10) (omega (arith, h, p)) (omega (arith, l, p)))
+
+-- by the library's logarithm, of which 0 has none
+pub width_digits : (x : ℕ) (k : Option ℕ) → IfNone k (x ≡ 0) → IfSome k (λ k. 10 ^ k ≤ x) → IfSome k (λ k. x < 10 * 10 ^ k) → unwrap_or k 0 + 1 ≡ width x
+width_digits x None z h l = rw z (sym (width_small 0 (omega arith)))
+width_digits x (Some k) z h l = add-one k ∙ sym (width_is k x h l)
 
 low_digit : (d : ℕ) → d < 10 → digit d ≡ 48 + d
 unfolding digit
@@ -218,10 +219,6 @@ length_labelled label x = rw (length-append, length_decimal)
 pub length_number : (x : Float) → length (number x) ≡ 17
 unfolding number
 length_number x = ap suc (length_digits 16 16 (bits_of x))
-
-pub written_number : (l : List ℕ) (at : ℕ) (x : Float) → written (set l at 32) (at + 1) (digits 16 16 (bits_of x)) ≡ written l at (number x)
-unfolding number written
-written_number l at x = refl
 
 -- ---- two words with their numbers
 pub length_paired : (label : List ℕ) (x : ℕ) (word : List ℕ) (y : ℕ) → length (paired label x word y) ≡ length label + width x + (length word + width y)

@@ -1,6 +1,6 @@
 -- The cable number, a term of documents 01 and 02: of a rotary on a path the largest whole k with 360 times k at most
--- the size of the difference, taken once in floats, of some angle and the rotary's rest angle; 0 on an empty path and for
--- a rotary that the chain lacks.
+-- the size of the difference, taken once in floats, of some angle and the rotary's rest angle; 0 on an empty path and
+-- for a rotary that the chain lacks.
 use Rattle.std.specs.Prelude.{◌≡◌, ℕ, ◌*◌, ◌/◌, ◌%◌, ◌≤◌, Bool, cond, ◌&&◌, ◌⊎◌, List, [], ◌∷◌, length, ◌==◌, from_bits, nat_lt, Float, Err, Ok, Result}
 use Rattle.std.specs.Float.Ieee as Ieee
 use Rattle.std.specs.Float.{nan, inf, fin, binary64}

@@ -59,8 +59,8 @@ turned : (turns_of (of_bits binary64 0x4076_7fff_ffff_ffff) ≡ 0)
 unfolding turns_of of_bits
 turned = (refl, refl, refl, refl, refl)
 
--- the difference is taken once in floats: 359.9 from -0.1 is 360, though exactly it is less; 720 from 1e-14 is 720; -270
--- from 90 is one turn, and from -90 none
+-- the difference is taken once in floats: 359.9 from -0.1 is 360, though exactly it is less; 720 from 1e-14 is 720;
+-- -270 from 90 is one turn, and from -90 none
 once : (turns_of (Ieee.sub binary64 (of_bits binary64 0x4076_7e66_6666_6666) (of_bits binary64 0xbfb9_9999_9999_999a)) ≡ 1)
     × (turns_of (Ieee.sub binary64 (of_bits binary64 0x4086_8000_0000_0000) (of_bits binary64 0x3d06_849b_86a1_2b9b)) ≡ 2)
     × (turns_of (Ieee.sub binary64 (of_bits binary64 0xc070_e000_0000_0000) (of_bits binary64 0x4056_8000_0000_0000)) ≡ 1)
@@ -84,8 +84,9 @@ broken : (read_job (replicate 39 0) ≡ breach 0)
 unfolding breach file read_job word_length job_from job_fields sized places_in placed chain_end one_or_two little_endian
 broken = (refl, refl, refl, refl)
 
--- a head C with all its numbers +0.0 and no poses: the seven bytes behind the count, the letter, the five bytes behind the
--- flags, the minimum, the maximum's last byte, the bytes of the rest angle or none, the pose offset, the trailer's word
+-- a head C with all its numbers +0.0 and no poses: the seven bytes behind the count, the letter, the five bytes behind
+-- the flags, the minimum, the maximum's last byte, the bytes of the rest angle or none, the pose offset, the trailer's
+-- word
 chained : List ℕ → ℕ → List ℕ → List ℕ → ℕ → List ℕ → ℕ → ℕ → List ℕ
 chained seven letter five min max rest poses word =
     1 ∷ seven ++ (letter ∷ 1 ∷ 0 ∷ five) ++ replicate 48 0 ++ min ++ replicate 7 0 ++ (max ∷ rest) ++ replicate 24 0 ++ (0 ∷ 0 ∷ 0 ∷ 0 ∷ poses ∷ 0 ∷ 0 ∷ 0 ∷ 0 ∷ 0 ∷ 0 ∷ 0 ∷ word ∷ replicate 27 0)

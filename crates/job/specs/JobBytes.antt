@@ -81,8 +81,8 @@ poses_end p = p.poses + 48 * p.count
 unfoldable pub apart : Places → ℕ → ℕ → Bool
 apart p chain_end poses_end = p.count == 0 || nat_le poses_end p.chain || nat_le chain_end p.poses
 
--- `count` is the chain's first byte, the number of its rotaries. The word is judged last: with another than 0 and 1 both
--- offsets are judged as for 0
+-- `count` is the chain's first byte, the number of its rotaries. The word is judged last: with another than 0 and 1
+-- both offsets are judged as for 0
 unfoldable pub placed : ℕ → List ℕ → Places → ℕ → Checked
 placed w bytes p count =
     first_refusal

@@ -1,4 +1,5 @@
--- The poses of a job in lent numbers, six for each: 20 where the output has no whole records, then the reader's refusals, then 28. A refusal keeps the output; after success what is left of it is +0.0.
+-- The poses of a job in lent numbers, six for each: 20 where the output has no whole records, then the reader's
+-- refusals, then 28. A refusal keeps the output; after success what is left of it is +0.0.
 use Rattle.std.specs.Prelude.{ℕ, zero, suc, ◌+◌, ◌*◌, ◌%◌, List, [], ◌∷◌, length, ◌==◌, nat_le, Float, Err, Ok, Result}
 use Rattle.lists.specs.Padding.{padded}
 use Rattle.float.specs.Helpers.{nought}

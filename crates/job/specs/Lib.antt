@@ -1,4 +1,5 @@
--- `JobBytes`: a job from its bytes. `JobPoses`: its poses in lent numbers. `Cable`: the cable number. `Spelling` and `Telling`: the text of an answer. `Examples`: worked cases of each.
+-- `JobBytes`: a job from its bytes. `JobPoses`: its poses in lent numbers. `Cable`: the cable number. `Spelling` and
+-- `Telling`: the text of an answer. `Examples`: worked cases of each.
 pub mod JobBytes
 pub mod JobPoses
 pub mod Cable

@@ -33,7 +33,8 @@ unfoldable pub width_within : ℕ → ℕ → ℕ
 width_within zero x = 1
 width_within (suc n) x = cond (nat_lt x 10) 1 (suc (width_within n (x / 10)))
 
--- no number has more digits than one more than itself (`width_small` and `width-more`, in proofs, do not know the bound)
+-- no number has more digits than one more than itself (`width_small` and `width_more`, in proofs, do not know the
+-- bound)
 unfoldable pub width : ℕ → ℕ
 width x = width_within x x
 

@@ -1,4 +1,5 @@
--- The text of an answer. A path: `poses`, how many; `inserted`, how many of them; `turns`, the cable numbers of the two rotaries; then a line for each joint set, its index and its five numbers by their bits.
+-- The text of an answer. A path: `poses`, how many; `inserted`, how many of them; `turns`, the cable numbers of the two
+-- rotaries; then a line for each joint set, its index and its five numbers by their bits.
 -- A refusal: `refused`, its number, and where it is of a pose, `pose` and the index. Each line ends with a newline.
 use Rattle.std.specs.Prelude.{ℕ, zero, suc, ◌+◌, Bool, cond, List, [], ◌∷◌, ◌++◌, length, nat_le, None, Option, Some, Err, Ok, Result}
 use Rattle.refusal.specs.Numbers as Numbers

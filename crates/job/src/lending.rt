@@ -8,7 +8,8 @@ use crate::job_bytes::read_job;
 use chain::{demand, number_at};
 use refusal::{Cause, Refusal};
 
-// An output full of numbers, from an offset on.
+// An output full of numbers, from an offset on. By index, as `probe_roots` of crate probe: under `zip` the loop's
+// invariant cannot name the numbers that are written.
 fn numbers_at(bytes: &[u8], at: usize, out: &mut [f64])
     requires { at + 8 * length out.old ≤ length bytes.now }
     ensures { out.new ≡ S.numbers_at (length out.old) bytes.now at }

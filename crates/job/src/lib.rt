@@ -17,7 +17,7 @@ pub use job_bytes::read_job;
 pub use lending::job_poses;
 use middle::Tolerances;
 use refusal::Refusal;
-pub use spelling::{Page, bits_of, put_bytes};
+pub use spelling::{Page, bits_of};
 pub use telling::answer_text;
 pub use winding::cable_number;
 

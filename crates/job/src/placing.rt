@@ -9,23 +9,24 @@ use crate::{Places, RecordKind};
 use chain::{demand, one_or_two};
 use refusal::{Cause, Refusal};
 
-// Beside `u16_at` and `word_at` of crate chain, and no generic of the three: `from_le_bytes` is each type's own.
+// As `word_at` of crate chain; no generic of both, since `from_le_bytes` is each type's own.
 fn u32_at(bytes: &[u8], at: usize) -> u32
     requires { at + 4 ≤ length bytes.now }
     ensures { result ≡ little_endian 4 bytes.now at }
 {
-    u32::from_le_bytes([bytes[at], bytes[at + 1], bytes[at + 2], bytes[at + 3]])
+    u32::from_le_bytes(*bytes[at..at + 4].first_chunk().unwrap())
 }
 
 #[tactic(auto, unfolding(crate::specs::JobBytes::sized))]
 pub fn sized(length: usize) -> bool
     ensures { result ≡ S.sized length }
 {
-    40 <= length && length <= 65536
+    matches!(length, 40..=65536)
 }
 
 impl RecordKind {
     // No `TryFrom`: every word but 1 counts as no rest angle, and of those the ones that are not 0 are refused later.
+    // No `From<u32>` either: not every word is a kind, and `RecordKind::from(word)` would read so.
     #[tactic(auto, unfolding(crate::specs::JobBytes::bytes_in, crate::specs::JobBytes::word_length))]
     pub fn of_word(word: u32) -> RecordKind
         ensures { S.bytes_in result ≡ S.word_length word }
@@ -68,11 +69,20 @@ impl RecordKind {
     }
 }
 
+impl Places {
+    // The kind of the rotaries' records, by the word.
+    pub(crate) fn kind(self) -> RecordKind
+        ensures { S.bytes_in result ≡ S.word_length self.word }
+    {
+        RecordKind::of_word(self.word)
+    }
+}
+
 #[tactic(auto, unfolding(crate::specs::JobBytes::chain_end), using(crate::proofs::RecordLengths::chain_most))]
-fn chain_end(kind: RecordKind, p: Places, count: u8) -> usize
-    ensures { result ≡ S.chain_end (S.bytes_in kind) p count }
+fn chain_end(p: Places, count: u8) -> usize
+    ensures { result ≡ S.chain_end (S.word_length p.word) p count }
 {
-    p.chain as usize + kind.chain_length(count)
+    p.chain as usize + p.kind().chain_length(count)
 }
 
 #[tactic(auto, unfolding(crate::specs::JobBytes::poses_end))]
@@ -125,12 +135,12 @@ impl JobBytes<'_> {
 
     // What the trailer says must be, in the order of its fields; the count is judged once its byte is inside.
     #[tactic(auto, unfolding(crate::specs::JobBytes::placed))]
-    pub fn placed(self, kind: RecordKind, p: Places, count: u8) -> Result<(), Refusal>
-        ensures { result ≡ S.placed (S.bytes_in kind) self.entry.bytes.now p count }
+    pub fn placed(self, p: Places, count: u8) -> Result<(), Refusal>
+        ensures { result ≡ S.placed (S.word_length p.word) self.entry.bytes.now p count }
     {
         let trailer = self.trailer();
         let at = trailer as u64;
-        let chain_end = chain_end(kind, p, count);
+        let chain_end = chain_end(p, count);
         let poses_end = poses_end(p);
         demand((p.chain as usize) < trailer, Cause::Malformed, at)?;
         demand(one_or_two(count), Cause::RotaryCount, 0)?;

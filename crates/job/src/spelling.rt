@@ -17,17 +17,15 @@ fn digit(d: u64) -> u8
     }
 }
 
-// 16 hexadecimal digits. By index: with `iter_mut().rev()` the proof did not close, since under `rev` the invariant
-// cannot name the bytes.
-pub fn put_hexadecimal(x: u64, out: &mut [u8], at: usize)
-    requires { at + 16 ≤ length out.old }
-    ensures { out.new ≡ S.written out.old at (S.digits 16 16 x) }
+// 16 hexadecimal digits.
+pub fn hexadecimal(x: u64) -> [u8; 16]
+    ensures { result ≡ S.digits 16 16 x }
 {
-    let mut rest = x;
-    for i in (0..16).rev() {
-        out[at + i] = digit(rest % 16);
-        rest /= 16;
+    let mut digits = [0u8; 16];
+    for (i, byte) in digits.iter_mut().enumerate() {
+        *byte = digit((x >> (60 - 4 * i)) % 16);
     }
+    digits
 }
 
 // How many decimal digits x has.
@@ -35,14 +33,7 @@ pub fn width(x: u64) -> usize
     ensures width { result ≡ S.width x }
     ensures few { result ≤ 20 }
 {
-    if x == 0 { 1 } else { x.ilog10() as usize + 1 }
-}
-
-pub fn put_bytes(text: &[u8], out: &mut [u8], at: usize)
-    requires { at + length text.now ≤ length out.old }
-    ensures { out.new ≡ S.written out.old at text.now }
-{
-    out[at..at + text.len()].copy_from_slice(text);
+    x.checked_ilog10().unwrap_or(0) as usize + 1
 }
 
 // The bit pattern; of every nan that of the one nan, though no answer has any.
@@ -64,7 +55,8 @@ impl Page<'_> {
         requires { S.Fits self.old text.now }
         ensures { S.Put self.old text.now self.new }
     {
-        put_bytes(text, self.out, self.at);
-        self.at += text.len();
+        let end = self.at + text.len();
+        self.out[self.at..end].copy_from_slice(text);
+        self.at = end;
     }
 }

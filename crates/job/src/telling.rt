@@ -1,13 +1,13 @@
 // The text of an answer, in a lent buffer: the path with its figures, a line for each joint set, or a refusal, with
 // the pose where there is one. What has no room is 28 with count 0, and the buffer is kept; bytes behind a text stay.
-ghost use Rattle.std.specs.Prelude.{◌≡◌, ◌≤◌, length};
+ghost use Rattle.std.specs.Prelude.{◌≡◌, ◌≤◌, is_some, length};
 ghost use Rattle.job.specs.Spelling.{Fits, Put, decimal, labelled, number};
 ghost use Rattle.job.specs.Cable.{joint_sets};
 ghost use Rattle.job.specs.Telling as S;
 
-use crate::spelling::{Page, bits_of, put_hexadecimal, width};
+use crate::spelling::{Page, bits_of, hexadecimal, width};
 use crate::{Figures, JobError};
-use chain::Joints;
+use chain::{Joints, demand};
 use refusal::{Cause, Refusal};
 
 // ---- what is put
@@ -36,10 +36,8 @@ impl Page<'_> {
         requires { Fits self.old (number x) }
         ensures { Put self.old (number x) self.new }
     {
-        let bits = bits_of(x);
-        self.out[self.at] = b' ';
-        put_hexadecimal(bits, self.out, self.at + 1);
-        self.at += 17;
+        self.put(b" ");
+        self.put(&hexadecimal(bits_of(x)));
     }
 
     #[tactic(auto, unfolding(crate::specs::Telling::numbers))]
@@ -99,23 +97,17 @@ impl Page<'_> {
     }
 }
 
-// Whether n lines fit behind what is used. A line is as long as its index is wide, so the index is the item.
-fn lines_fit(n: usize, used: usize, room: usize) -> bool
+// What n lines leave of the room behind what is used, if they fit. A line is as long as its index is wide, so the index
+// is the item. No `try_fold`: tried, and what it promises of its turns did not give the proof the sum of the widths.
+fn room_left(n: usize, used: usize, room: usize) -> Option<usize>
     requires { n ≤ 9223372036854775807 }
-    ensures { result ≡ S.lines_fit n used room }
+    ensures { is_some result ≡ S.lines_fit n used room }
 {
-    if room < used {
-        return false;
-    }
-    let mut left = room - used;
+    let mut left = room.checked_sub(used)?;
     for i in 0..n {
-        let needed = width(i as u64) + 86;
-        if left < needed {
-            return false;
-        }
-        left -= needed;
+        left = left.checked_sub(width(i as u64) + 86)?;
     }
-    true
+    Some(left)
 }
 
 // ---- the first line
@@ -131,22 +123,14 @@ fn head_length(f: Figures, n: u64) -> usize
 }
 
 // ---- the texts
-// One refusal of two texts, under the name that the contracts have for it.
-fn no_space() -> Result<usize, Refusal>
-    ensures { result ≡ S.no_space }
-{
-    Err(Refusal::new(Cause::NoSpace, 0))
-}
-
 fn path_text(f: Figures, joints: &[f64], out: &mut [u8]) -> Result<usize, Refusal>
     ensures told { result ≡ S.told (S.path_text f (joint_sets joints.now)) (length out.old) }
     ensures lent { out.new ≡ S.told_over (S.path_text f (joint_sets joints.now)) out.old }
 {
     let n = joints.len() / 5;
     let used = head_length(f, n as u64);
-    if !lines_fit(n, used, out.len()) {
-        return no_space();
-    }
+    let left = room_left(n, used, out.len());
+    demand(left.is_some(), Cause::NoSpace, 0)?;
     let mut page = Page { out, at: 0 };
     page.put_head(f, n as u64);
     page.put_lines(joints);
@@ -168,9 +152,7 @@ fn refused_text(cause: Cause, pose: Option<u64>, out: &mut [u8]) -> Result<usize
     ensures told { result ≡ S.told (S.refused_text cause pose) (length out.old) }
     ensures lent { out.new ≡ S.told_over (S.refused_text cause pose) out.old }
 {
-    if out.len() < refused_length(cause, pose) {
-        return no_space();
-    }
+    demand(refused_length(cause, pose) <= out.len(), Cause::NoSpace, 0)?;
     let mut page = Page { out, at: 0 };
     page.put_labelled(b"refused ", cause.number() as u64);
     page.put_pose(pose);

@@ -1,6 +1,9 @@
 // The cable number of a rotary on a path: how many whole turns its cable is wound at most, from the angle at which it
 // hangs free. The term is that of documents 01 and 02.
-ghost use Rattle.std.specs.Prelude.{◌≡◌};
+ghost use Rattle.std.specs.Prelude.{◌/◌, ◌≡◌, length};
+ghost use Rattle.std.specs.List.{fold};
+ghost use Rattle.std.specs.Simd.{first_chunks};
+ghost use Rattle.turn.specs.Items.{joints_in};
 ghost use Rattle.job.specs.Cable as S;
 
 use crate::Survey;
@@ -42,19 +45,26 @@ fn surveyed(rest: f64, rotary: usize, s: Survey, j: Joints) -> Survey
     }
 }
 
+// Over chunks, of which `chunks_surveyed` says that they are the joint sets.
+fn surveyed_by(rest: f64, rotary: usize, s: Survey, joints: &[f64]) -> Survey
+    ensures { result ≡ fold (λ s c. S.surveyed rest rotary s (joints_in c 0)) s (first_chunks 5 (length joints.now / 5) joints.now) }
+{
+    let (sets, _) = joints.as_chunks::<5>();
+    sets.iter().fold(
+        s,
+        |s, set| surveyed(rest, rotary, s, turn::joints_in(set, 0)),
+    )
+}
+
 fn survey(rest: f64, rotary: usize, joints: &[f64]) -> Survey
     ensures { result ≡ S.survey rest rotary (S.joint_sets joints.now) }
 {
-    let (sets, _) = joints.as_chunks::<5>();
-    let mut s = Survey {
+    let unread = Survey {
         finite: true,
         within: true,
         turns: 0,
     };
-    for set in sets {
-        s = surveyed(rest, rotary, s, turn::joints_in(set, 0));
-    }
-    s
+    surveyed_by(rest, rotary, unread, joints)
 }
 
 #[tactic(auto, unfolding(crate::specs::Cable::cable_sizes))]

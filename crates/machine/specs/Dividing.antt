@@ -1,4 +1,5 @@
--- The division of a path: document 01's halving of its items, and what it leaves in the two lent outputs. What the machine is ready for is said here too.
+-- The division of a path: document 01's halving of its items, and what it leaves in the two lent outputs. What the
+-- machine is ready for is said here too.
 use Rattle.std.specs.Prelude.{ℕ, ◌-◌, ◌*◌, ◌≤◌, ◌<◌, ◌≡◌, List, ◌++◌, map, length, take, drop, replicate, Float, Err, Ok, Result}
 use Rattle.std.proofs.Math.Option.{none}
 use Rattle.float.specs.Helpers.{nought}

@@ -1,4 +1,5 @@
--- One pair divided after insertions elsewhere: what Subdiv::fill of the Rust does, with the record of count and tolerances that it is lent.
+-- One pair divided after insertions elsewhere: what Subdiv::fill of the Rust does, with the record of count and
+-- tolerances that it is lent.
 use Rattle.std.specs.Prelude.{ℕ, cond, List, [], ◌∷◌, leb, ltb, length, Float, Err, Ok}
 use Rattle.halving.specs.Halving.{Answer, NoSpace, count}
 use Rattle.chain.specs.declared.Prepared.{Prepared}

@@ -77,7 +77,7 @@ fn staying(turn: Result<Machine, Stop>) -> usize
 fn answer_in(turn: Result<Machine, Stop>) -> Result<u64, Stop>
     ensures { result ≡ S.answer_in turn }
 {
-    Ok(turn?.inserted)
+    turn.map(|last| last.inserted)
 }
 
 // What is not placed is +0.0; after a refusal, everything.

@@ -15,6 +15,7 @@ use Rattle.lists.proofs.Rows.{flat_append}
 use Rattle.chain.specs.declared.Joints.{Joints}
 use Rattle.inverse.specs.Solutions.{nowhere}
 use Rattle.path.specs.Solving.{joints_over}
+use Rattle.path.proofs.Walking.{joints_sets}
 use Rattle.maztubel.specs.InverseEntries.{joint_numbers}
 
 pub set_written : (j : Joints) (l : List Float) → length l ≡ 5 → joints_over j l 0 ≡ joint_numbers j
@@ -28,13 +29,8 @@ set_written j (a ∷ b ∷ c ∷ d ∷ f ∷ []) e = refl
 set_written j (a ∷ b ∷ c ∷ d ∷ f ∷ g ∷ l) e = absurd (omega arith)
 
 set_sets : (j : Joints) (l : List Float) (i : ℕ) → joints_over j l i ≡ sets l i (joint_numbers j)
-unfolding joints_over joint_numbers
-set_sets j l i =
-    let one : i + 1 ≡ suc i = omega arith in
-    let two : i + 2 ≡ suc (suc i) = omega arith in
-    let three : i + 3 ≡ suc (suc (suc i)) = omega arith in
-    let four : i + 4 ≡ suc (suc (suc (suc i))) = omega arith in
-    rw (one, two, three, four)
+unfolding joint_numbers
+set_sets j l i = joints_sets j l i
 
 five : (j : Joints) → length (joint_numbers j) ≡ 5
 unfolding joint_numbers

@@ -1,14 +1,23 @@
--- Vectors written over the whole of a lent buffer leave nothing of it.
+-- Vectors written over lent numbers: each as three numbers in a row, and over the whole of a lent buffer they leave nothing
+-- of it.
+use Prim.Native.Nat.{ℕ}
+use native.Mathlib.Numerals.{towards_suc}
 use native.Mathlib.Omega.{arith}
 use mathlib.Core.Path.{◌≡◌, refl}
 use mathlib.Core.List.{List, [], ◌∷◌}
 use lib.ListN.{length}
+use lib.Seq.{sets}
 use lib.Ieee.{Float}
+use Rattle.geometry.specs.declared.Vec3.{Vec3}
 use Rattle.geometry.specs.declared.Rigid.{Rigid}
 use Rattle.chain.specs.declared.ToolPose.{ToolPose}
 use Rattle.maztubel.specs.Lent.{vector_over}
 use Rattle.maztubel.specs.ChainEntries.{pose_numbers}
 use Rattle.maztubel.specs.LinkEntries.{frame_numbers}
+
+pub vector_sets : (v : Vec3) (l : List Float) (at : ℕ) → vector_over v l at ≡ sets l at (v.x ∷ v.y ∷ v.z ∷ [])
+unfolding vector_over
+vector_sets v l at = simp towards_suc
 
 pub pose_written : (p : ToolPose) (l : List Float) → length l ≡ 6 → vector_over p.axis (vector_over p.tip l 0) 3 ≡ pose_numbers p
 unfolding vector_over pose_numbers

@@ -1,5 +1,5 @@
--- What an export answers and what it leaves in the numbers that it was lent, from what `trig` answers: a number for each case,
--- the lent number afterwards, and the same for slices.
+-- What an export answers and what it leaves in the numbers that it was lent, from what `trig` answers: a number for
+-- each case, the lent number afterwards, and the same for slices.
 use Rattle.std.specs.Prelude.{ℕ, zero, suc, ◌<◌, Bool, true, false, cond, List, eqb, length, get_or, Float, None, Option, Some}
 use Rattle.std.specs.Float.{nan}
 use Rattle.lists.specs.Search.{any}

@@ -1,4 +1,5 @@
--- What the entries of a chain answer, from the bytes and numbers that they are lent: first 20, then 29, then the list of checks of `chain`, with what was lent kept on a refusal.
+-- What the entries of a chain answer, from the bytes and numbers that they are lent: first 20, then 29, then the list
+-- of checks of `chain`, with what was lent kept on a refusal.
 use Rattle.std.specs.Prelude.{ℕ, ◌&&◌, cond, List, [], ◌∷◌, eqb, length, Float, Err, Ok, Result}
 use Rattle.refusal.specs.declared.Refusal.{Refusal}
 use Rattle.refusal.specs.Numbers.{refusal}

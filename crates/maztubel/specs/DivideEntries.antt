@@ -1,4 +1,5 @@
--- What the two entries that divide answer, from the bytes and numbers that they are lent: first 20, then 29, then the checks of `divide`.
+-- What the two entries that divide answer, from the bytes and numbers that they are lent: first 20, then 29, then the
+-- checks of `divide`.
 use Rattle.std.specs.Prelude.{ℕ, ◌≡◌, ◌↔◌, Bool, true, false, not, cond, ◌&&◌, List, length, Float, Err, Ok, Option, Result}
 use Rattle.turn.specs.declared.Stop.{Stop}
 use Rattle.turn.specs.Stops.{cause_of, inserted_before}

@@ -1,4 +1,5 @@
--- What the entries of the inverse map answer, from the bytes and numbers that they are lent: first 20, then 29, then the list of checks of `inverse`. With 21 and 22 every lent answer is +0.0; every other refusal keeps it.
+-- What the entries of the inverse map answer, from the bytes and numbers that they are lent: first 20, then 29, then
+-- the list of checks of `inverse`. With 21 and 22 every lent answer is +0.0; every other refusal keeps it.
 use Rattle.std.specs.Prelude.{ℕ, Bool, true, false, ◌&&◌, cond, List, [], ◌∷◌, eqb, ltb, length, get_or, replicate, Float, Err, Ok, Result}
 use Rattle.std.specs.Float.{nan}
 use Rattle.lists.specs.Padding.{padded}

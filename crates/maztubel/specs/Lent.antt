@@ -1,4 +1,5 @@
--- What every entry does with what it is lent: a refusal's number is answered, its place and letter are written; joints are five numbers; vectors are written over lent numbers.
+-- What every entry does with what it is lent: a refusal's number is answered, its place and letter are written; joints
+-- are five numbers; vectors are written over lent numbers.
 use Rattle.std.specs.Prelude.{ℕ, ◌+◌, List, get_or, set, Float, Err, Ok, Result}
 use Rattle.std.specs.Float.{nan}
 use Rattle.geometry.specs.declared.Vec3.{Vec3}

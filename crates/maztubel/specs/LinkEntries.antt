@@ -1,4 +1,5 @@
--- What the entries of a model answer, from the bytes and numbers that they are lent: first 20, then 29 for the chain's bytes, then the list of checks of `model`, which begins with 29 for the model's.
+-- What the entries of a model answer, from the bytes and numbers that they are lent: first 20, then 29 for the chain's
+-- bytes, then the list of checks of `model`, which begins with 29 for the model's.
 use Rattle.std.specs.Prelude.{ℕ, ◌&&◌, cond, List, [], ◌∷◌, eqb, length, Float, Err, Ok, Result}
 use Rattle.geometry.specs.declared.Rigid.{Rigid}
 use Rattle.refusal.specs.declared.Refusal.{Refusal}

@@ -1,5 +1,5 @@
--- What the entry that asks whether links meet answers, from the bytes and numbers that it is lent: first 20, then 29 for
--- the chain's bytes, then the checks of `meet`. What is lent is kept on a refusal.
+-- What the entry that asks whether links meet answers, from the bytes and numbers that it is lent: first 20, then 29
+-- for the chain's bytes, then the checks of `meet`. What is lent is kept on a refusal.
 use Rattle.std.specs.Prelude.{ℕ, ◌%◌, not, cond, List, eqb, length, Float, Err, Ok, Result, Option, Some, None}
 use Rattle.refusal.specs.declared.Refusal.{Refusal}
 use Rattle.refusal.specs.Numbers.{refusal}

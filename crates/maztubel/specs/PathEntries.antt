@@ -1,4 +1,5 @@
--- What the entry of a path answers, from the bytes and numbers that it is lent: first 20, then 29, then the checks of `path`.
+-- What the entry of a path answers, from the bytes and numbers that it is lent: first 20, then 29, then the checks of
+-- `path`.
 use Rattle.std.specs.Prelude.{ℕ, Bool, true, not, cond, ◌&&◌, List, eqb, length, Float, Err, None, Ok, Option, Result, Some}
 use Rattle.refusal.specs.declared.Refusal.{Refusal}
 use Rattle.refusal.specs.Numbers.{refusal}

@@ -1,5 +1,5 @@
--- What the entry that quotes a division answers, from the bytes and numbers that it is lent: first 20, then 29, then the
--- checks of `quote`, which are division's.
+-- What the entry that quotes a division answers, from the bytes and numbers that it is lent: first 20, then 29, then
+-- the checks of `quote`, which are division's.
 use Rattle.std.specs.Prelude.{ℕ, ◌≡◌, Bool, not, cond, ◌&&◌, List, length, Float, Err, Ok, Result}
 use Rattle.refusal.specs.declared.Refusal.{Refusal}
 use Rattle.refusal.specs.Numbers.{refusal}

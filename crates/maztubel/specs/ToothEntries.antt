@@ -1,5 +1,5 @@
--- What the entry of the positioning profile answers, from the bytes and numbers that it is lent: 19 before all else, then 20,
--- 29, and what the profile answers.
+-- What the entry of the positioning profile answers, from the bytes and numbers that it is lent: 19 before all else,
+-- then 20, 29, and what the profile answers.
 use Rattle.std.specs.Prelude.{ℕ, ◌≡◌, ◌&&◌, cond, List, eqb, ltb, length, Float, Err, Ok, Result}
 use Rattle.refusal.specs.declared.Refusal.{Refusal}
 use Rattle.refusal.specs.Numbers.{refusal}

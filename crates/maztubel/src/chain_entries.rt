@@ -58,16 +58,17 @@ fn forward_of(
     chain::forward_from(chain, turn::joints_in(joints, 0), tool_length)
 }
 
-// Writes a pose where there is one, and six numbers' room for it.
+// Writes a pose where there is one, and six numbers' room for it. `forward_of` has tested the room: a `requires` in
+// place of the second test would have the caller prove that a pose comes only with its room.
 #[tactic(auto, using(crate::proofs::Written::pose_written))]
 fn put_pose(answer: Result<ToolPose, Refusal>, pose: &mut [f64])
     ensures { pose.new ≡ S.pose_over answer pose.old }
 {
-    let Ok(p) = answer else {
-        return;
-    };
-    if pose.len() == 6 {
-        put_vector(p.tip, pose, 0);
-        put_vector(p.axis, pose, 3);
+    match answer {
+        Ok(p) if pose.len() == 6 => {
+            put_vector(p.tip, pose, 0);
+            put_vector(p.axis, pose, 3);
+        }
+        _ => {}
     }
 }

@@ -96,17 +96,13 @@ fn inserted_in(said: Result<u64, DivisionError>) -> u64
     }
 }
 
-// Of a division that stopped, its cause alone.
 fn refusal_in(said: Result<u64, DivisionError>) -> Result<(), Refusal>
     ensures number { Lent.number_in result ≡ S.division_number said }
     ensures place { Lent.place_in result ≡ S.division_place said }
     ensures named { Lent.letter_in result ≡ S.division_letter said }
 {
-    match said {
-        Ok(_) => Ok(()),
-        Err(DivisionError::Refused(r) | DivisionError::AtPose(r)) => Err(r),
-        Err(DivisionError::Stopped(stop)) => Err(Refusal::new(stop.cause(), 0)),
-    }
+    said?;
+    Ok(())
 }
 
 pub fn subdivide_of(

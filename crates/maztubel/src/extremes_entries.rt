@@ -50,6 +50,7 @@ pub fn maztubel_first_above(
     number_in(&asked)
 }
 
+// Beside `put_cable` and `put_meeting`, as a line at the first of these says.
 fn put_asked(asked: Result<Option<usize>, Refusal>, found: &mut u64, index: &mut u64)
     ensures found { found.new ≡ S.found_over asked found.old }
     ensures index { index.new ≡ S.index_over asked index.old }

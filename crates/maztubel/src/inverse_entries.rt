@@ -1,7 +1,6 @@
 // The entries of the inverse map: every joint set that reaches a pose, and one of them by a choice. A chain is handed
 // over as bytes; place and letter are written by every call, and with 21 and 22 what was lent for the answer is +0.0.
-ghost use Rattle.std.specs.Prelude.{◌+◌, ◌≤◌, ◌≡◌, length, replicate};
-ghost use Rattle.float.specs.Helpers.{nought};
+ghost use Rattle.std.specs.Prelude.{◌≤◌, ◌≡◌, length};
 ghost use Rattle.maztubel.specs.Lent as Lent;
 ghost use Rattle.maztubel.specs.InverseEntries as S;
 ghost use Rattle.maztubel.specs.Steps.{ChoiceAsked};
@@ -68,6 +67,8 @@ fn angles_in(hint: &[f64]) -> Angles
     Angles { a0, a1 }
 }
 
+// C says the choice by a number. Every number from 2 on counts as the third here: what is above 2 is refused before, in
+// one check with the lengths, as the definition has it. An Option would take that check apart and refuse in two places.
 #[tactic(auto, unfolding(crate::specs::InverseEntries::choice_of))]
 fn choice_of(choice: u32, hint: Angles) -> Choice
     ensures { result ≡ S.choice_of choice hint }
@@ -150,12 +151,6 @@ fn clears(r: Refusal) -> bool
     matches!(r.cause, Cause::NotReachable | Cause::OutsideLimits)
 }
 
-fn clear(numbers: &mut [f64])
-    ensures { numbers.new ≡ replicate (length numbers.old) nought }
-{
-    numbers.fill(0.0);
-}
-
 // The joint sets one after another, and +0.0 behind them. Written by index: once a borrow from `chunks_mut` is over, a
 // proof knows the list's length and not its numbers.
 fn put_sets(solutions: &[Joints], list: &mut [f64])
@@ -169,20 +164,15 @@ fn put_sets(solutions: &[Joints], list: &mut [f64])
     path::clear_from(list, solutions.len() * 5);
 }
 
+// Tests the room again, as the definitions do, and as `put_chosen` does: a `requires` in place of the test would have
+// every caller prove that an answer comes only with its room.
 fn put_list(answers: &Result<Solutions, Refusal>, list: &mut [f64])
     ensures { list.new ≡ S.list_over answers.now list.old }
 {
     match answers {
-        Ok(solutions) => {
-            if list.len() == 250 {
-                put_sets(solutions, list);
-            }
-        }
-        Err(r) => {
-            if clears(*r) {
-                clear(list);
-            }
-        }
+        Ok(solutions) if list.len() == 250 => put_sets(solutions, list),
+        Err(r) if clears(*r) => list.fill(0.0),
+        _ => {}
     }
 }
 
@@ -190,14 +180,9 @@ fn put_count(answers: &Result<Solutions, Refusal>, count: &mut u64)
     ensures { count.new ≡ S.count_over answers.now count.old }
 {
     match answers {
-        Ok(solutions) => {
-            *count = solutions.len() as u64;
-        }
-        Err(r) => {
-            if clears(*r) {
-                *count = 0;
-            }
-        }
+        Ok(solutions) => *count = solutions.len() as u64,
+        Err(r) if clears(*r) => *count = 0,
+        _ => {}
     }
 }
 
@@ -206,15 +191,8 @@ pub fn put_chosen(answer: Result<Joints, Refusal>, joints: &mut [f64])
     ensures { joints.new ≡ S.joints_over answer joints.old }
 {
     match answer {
-        Ok(j) => {
-            if joints.len() == 5 {
-                path::put_joints(j, joints, 0);
-            }
-        }
-        Err(r) => {
-            if clears(r) {
-                clear(joints);
-            }
-        }
+        Ok(j) if joints.len() == 5 => path::put_joints(j, joints, 0),
+        Err(r) if clears(r) => joints.fill(0.0),
+        _ => {}
     }
 }

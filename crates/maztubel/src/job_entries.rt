@@ -120,11 +120,12 @@ fn cable_of(chain: &[u8], joints: &[f64], rotary: u64) -> Result<u64, Refusal>
     job::cable_number(k, joints, rotary as usize)
 }
 
+// The three writers of answers, this one, `put_asked` and `put_meeting`, stay apart: each takes another answer apart
+// into the numbers that C lends for it.
 fn put_cable(cable: Result<u64, Refusal>, number: &mut u64)
     ensures { number.new ≡ S.number_over cable number.old }
 {
-    let Ok(k) = cable else {
-        return;
-    };
-    *number = k;
+    if let Ok(k) = cable {
+        *number = k;
+    }
 }

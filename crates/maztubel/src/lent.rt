@@ -58,12 +58,9 @@ pub fn number_in<T>(answer: &Result<T, Refusal>) -> u32
 }
 
 // Writes three numbers from an index on.
-#[tactic(auto, unfolding(crate::specs::Lent::vector_over))]
 pub fn put_vector(v: Vec3, numbers: &mut [f64], at: usize)
     requires { at + 3 ≤ length numbers.old }
     ensures { numbers.new ≡ S.vector_over v numbers.old at }
 {
-    numbers[at] = v.x;
-    numbers[at + 1] = v.y;
-    numbers[at + 2] = v.z;
+    numbers[at..at + 3].copy_from_slice(&[v.x, v.y, v.z]);
 }

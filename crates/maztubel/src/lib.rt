@@ -226,8 +226,9 @@ fn any_pair_refused(ys: &[f64], xs: &[f64]) -> bool
     ys.iter().zip(xs).any(|(y, x)| pair_refused(*y, *x))
 }
 
-// Beside `of_each`, since C lends two slices: one loop for both would take the answer at an index as a closure, and ask
-// each of the two for the bounds that the index keeps here.
+// Apart from `of_each`, since C lends two slices here. One loop for both would be handed a closure that answers for an
+// index, and each of the two callers would have to prove of its closure that the index lies within its slices, which
+// each of the two loops knows of its own.
 #[tactic(auto, unfolding(crate::specs::Answers::number_of_all))]
 fn of_pairs(ys: &[f64], xs: &[f64], answers: &mut [f64]) -> Result<(), Refusal>
     ensures number { Lent.number_in result ≡ number_of_all (same_length ys.now xs.now && same_length xs.now answers.old) (paired Arctangent.arctangent_of ys.now xs.now) }

@@ -102,18 +102,19 @@ fn link_of<F: FnOnce(Kinematics, Joints) -> Result<Rigid, Refusal>>(
     place(k, turn::joints_in(joints, 0))
 }
 
-// Writes a frame where there is one, and twelve numbers' room for it.
+// Writes a frame where there is one, and twelve numbers' room for it. `link_of` has tested the room: a `requires` in
+// place of the second test would have both callers prove that a frame comes only with its room.
 #[tactic(auto, using(crate::proofs::Written::frame_written))]
 fn put_frame(answer: Result<Rigid, Refusal>, frame: &mut [f64])
     ensures { frame.new ≡ S.frame_over answer frame.old }
 {
-    let Ok(r) = answer else {
-        return;
-    };
-    if frame.len() == 12 {
-        put_vector(r.origin, frame, 0);
-        put_vector(r.axis_x, frame, 3);
-        put_vector(r.axis_y, frame, 6);
-        put_vector(r.axis_z, frame, 9);
+    match answer {
+        Ok(r) if frame.len() == 12 => {
+            put_vector(r.origin, frame, 0);
+            put_vector(r.axis_x, frame, 3);
+            put_vector(r.axis_y, frame, 6);
+            put_vector(r.axis_z, frame, 9);
+        }
+        _ => {}
     }
 }

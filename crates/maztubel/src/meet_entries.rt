@@ -57,6 +57,7 @@ fn meet_of(
     meet::links_meet(&machine, joints)
 }
 
+// Beside `put_cable` and `put_asked`, as a line at the first of these says.
 fn put_meeting(
     answer: Result<Option<Meeting>, Refusal>,
     found: &mut u64,

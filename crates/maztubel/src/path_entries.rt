@@ -34,7 +34,7 @@ pub fn maztubel_solve_path(
 pub fn start_good(numbers: usize) -> bool
     ensures { result ≡ S.start_good numbers }
 {
-    numbers == 0 || numbers == 5
+    matches!(numbers, 0 | 5)
 }
 
 // The records are whole, and the start is five numbers or none.

@@ -73,15 +73,11 @@ fn quote_of(
     quote::quote_path(k, tol, poses, joints, scratch_joints, scratch_tips)
 }
 
-// The refusal that C is told. It has no place where the quotation ended before its time.
 fn refusal_in(answer: Result<Figures, QuoteError>) -> Result<(), Refusal>
     ensures { result ≡ S.refusal_in answer }
 {
-    match answer {
-        Ok(_) => Ok(()),
-        Err(QuoteError::Refused(r)) => Err(r),
-        Err(QuoteError::Stopped(stop)) => Err(Refusal::new(stop.cause(), 0)),
-    }
+    answer?;
+    Ok(())
 }
 
 fn figures_in(answer: Result<Figures, QuoteError>) -> Figures

@@ -30,7 +30,7 @@ unfoldable pub box_radius : Vec3 → Vec3 → Float
 box_radius min max = times (gap_vec max min) half
 
 -- ---- a cylinder. Half the length is rounded once and used for both. The axis of a good solid has a direction, so that
--- the unit vector is never the given axis itself (`no-fallback`, in proofs).
+-- the unit vector is never the given axis itself (`no_fallback`, in proofs).
 abbrev pub half_of : Float → Float
 half_of length = times length half
 

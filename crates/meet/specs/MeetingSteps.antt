@@ -1,5 +1,5 @@
 -- The words in which inner functions promise their results. A reader who believes `Meeting` needs none of them.
-use Rattle.std.specs.Prelude.{Bool, true, false, cond, not, ◌&&◌, List, map, ℕ, ◌+◌, eqb, leb, length, Float, Option}
+use Rattle.std.specs.Prelude.{Bool, true, false, cond, not, ◌&&◌, List, [], ◌∷◌, map, drop, ℕ, ◌+◌, eqb, leb, length, position, Float, None, Option, Some}
 use Rattle.std.specs.Float.Ieee as Ieee
 use Rattle.geometry.specs.declared.Rigid.{Rigid}
 use Rattle.geometry.specs.declared.Vec3.{Vec3}
@@ -16,7 +16,7 @@ use Rattle.model.specs.Frame.{frame_of, turns_forth}
 use Rattle.model.specs.ModelCheck.{carrier_of}
 use Rattle.model.specs.Solid.{solid_at}
 use Rattle.meet.specs.Balls.{middle_of, radius_of}
-use Rattle.meet.specs.Meeting.{first_pair}
+use Rattle.meet.specs.Meeting.{first_pair, link_pair}
 use Rattle.meet.specs.declared.Ball.{Ball}
 use Rattle.meet.specs.declared.Frames.{Frames}
 use Rattle.meet.specs.declared.LinkPair.{LinkPair}
@@ -63,6 +63,19 @@ placed f b = carried_ball b.kind (map_point (frame_for f b.kind) b.middle) b.rad
 -- ---- searched
 unfoldable pub near : Ball → Ball → Bool
 near a b = not (same_kind a.kind b.kind) && Ieee.lt (gap_vec a.middle b.middle) (plus a.radius b.radius)
+
+-- the ball at i and the one so many behind it
+abbrev pub pair_behind : ℕ → Option ℕ → Option LinkPair
+pair_behind i (Some k) = Some (link_pair i (i + 1 + k))
+pair_behind i None = None
+
+-- the first of the later balls that is near the ball at i
+abbrev pub pair_in : ℕ → List Ball → Option LinkPair
+pair_in i [] = None
+pair_in i (b ∷ later) = pair_behind i (position (near b) later)
+
+unfoldable pub pair_of : List Ball → ℕ → Option LinkPair
+pair_of l i = pair_in i (drop i l)
 
 unfoldable pub pair_at : Prepared → List Ball → Joints → Option LinkPair
 pair_at p l j = first_pair near 0 (map (placed (frames_at p j)) l)

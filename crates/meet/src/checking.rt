@@ -31,9 +31,9 @@ fn solid_within(solid: LinkSolid) -> bool
         LinkSolid::Box { min, max } => box_within(min, max),
         LinkSolid::Cylinder {
             base,
-            axis: _,
             radius,
             length,
+            ..
         } => cylinder_within(base, radius, length),
     }
 }

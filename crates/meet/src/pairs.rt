@@ -1,5 +1,5 @@
 // The first pair that meets: by the earlier ball, then by the later.
-ghost use Rattle.std.specs.Prelude.{◌≡◌, position};
+ghost use Rattle.std.specs.Prelude.{◌<◌, ◌≡◌, length, position};
 ghost use Rattle.meet.specs.Meeting as S;
 ghost use Rattle.meet.specs.MeetingSteps as T;
 
@@ -19,15 +19,19 @@ fn first_near(ball: Ball, others: &[Ball]) -> Option<usize>
     others.iter().position(|other| near(ball, *other))
 }
 
+// The first ball behind the one at an index that is near it.
+fn pair_of(balls: &[Ball], first: usize) -> Option<LinkPair>
+    requires { first < length balls.now }
+    ensures { result ≡ T.pair_of balls.now first }
+{
+    let k = first_near(balls[first], &balls[first + 1..])?;
+    let second = first + 1 + k;
+    Some(LinkPair { first, second })
+}
+
+// By index and no `enumerate`: what `pair_of` asks of it is then found alone.
 pub fn first_pair(balls: &[Ball]) -> Option<LinkPair>
     ensures { result ≡ S.first_pair T.near 0 balls.now }
 {
-    for (first, ball) in balls.iter().enumerate() {
-        let later = &balls[first + 1..];
-        if let Some(k) = first_near(*ball, later) {
-            let second = first + 1 + k;
-            return Some(LinkPair { first, second });
-        }
-    }
-    None
+    (0..balls.len()).find_map(|first| pair_of(balls, first))
 }

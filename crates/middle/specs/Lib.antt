@@ -1,2 +1,3 @@
--- What two neighbours on a path come to. `Testing`: the tolerance test, the midpoint, and when two neighbours are divided.
+-- What two neighbours on a path come to. `Testing`: the tolerance test, the midpoint, and when two neighbours are
+-- divided.
 pub mod Testing

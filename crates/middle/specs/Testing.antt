@@ -1,4 +1,5 @@
--- The tolerance test of two neighbours, and the rule of document 01's halving: two neighbours are divided if they fail the test and their midpoint differs from each by more than 1e-12.
+-- The tolerance test of two neighbours, and the rule of document 01's halving: two neighbours are divided if they fail
+-- the test and their midpoint differs from each by more than 1e-12.
 use Rattle.std.specs.Prelude.{Bool, true, not, cond, ◌&&◌, ◌||◌, Float, None, Option, Some}
 use Rattle.std.specs.Float.Ieee as Ieee
 use Rattle.std.specs.Float.{binary64}
@@ -42,7 +43,8 @@ pose_of p j = forward_core p (turns_of p j.a0 j.a1) j.xyz nought
 unfoldable pub midpoint : Prepared → Item → Item → Item
 midpoint p left right = record { pose = pose_of p (lerp_joints left.joints right.joints); joints = lerp_joints left.joints right.joints }
 
--- ---- the tolerance test: in the middle, the tip beside the middle of the two tips, and the axis beside the middle of the two axes that the joints reach
+-- ---- the tolerance test: in the middle, the tip beside the middle of the two tips, and the axis beside the middle of
+-- the two axes that the joints reach
 unfoldable pub tip_gap : Item → Item → Item → Float
 tip_gap left right middle = gap_vec middle.pose.tip (lerp_vec left.pose.tip right.pose.tip half)
 

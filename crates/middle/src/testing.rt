@@ -40,8 +40,7 @@ pub fn lerp_joints(left: Joints, right: Joints) -> Joints
 pub fn pose_of(p: Prepared, j: Joints) -> ToolPose
     ensures { result ≡ S.pose_of p j }
 {
-    let turns = chain::turns_of(p, j.a0, j.a1);
-    chain::forward_core(p, turns, j.xyz, 0.0)
+    chain::pose_at(p, j, 0.0)
 }
 
 pub fn midpoint(p: Prepared, left: Item, right: Item) -> Item
@@ -57,10 +56,8 @@ pub fn midpoint(p: Prepared, left: Item, right: Item) -> Item
 fn tip_gap(left: Item, right: Item, middle: Item) -> f64
     ensures { result ≡ S.tip_gap left right middle }
 {
-    let from = left.pose;
-    let to = right.pose;
-    let reached = middle.pose;
-    geometry::gap_vec(reached.tip, geometry::lerp_vec(from.tip, to.tip, 0.5))
+    let between = geometry::lerp_vec(left.pose.tip, right.pose.tip, 0.5);
+    geometry::gap_vec(middle.pose.tip, between)
 }
 
 // The axis reached in the middle, beside the middle of the two axes that the joints reach.
@@ -68,9 +65,8 @@ fn tip_gap(left: Item, right: Item, middle: Item) -> f64
 fn axis_gap(left_axis: Vec3, right_axis: Vec3, middle: Item) -> f64
     ensures { result ≡ S.axis_gap left_axis right_axis middle }
 {
-    let reached = middle.pose;
     let between = geometry::slerp_axis(left_axis, right_axis, 0.5);
-    geometry::angle_between_deg(reached.axis, between)
+    geometry::angle_between_deg(middle.pose.axis, between)
 }
 
 // Whether both tolerances hold in the middle.
@@ -105,16 +101,15 @@ pub fn segment_within(p: Prepared, tol: Tolerances, left: Item, right: Item) -> 
 fn near_an_end(left: Item, right: Item, middle: Item) -> bool
     ensures { result ≡ S.near_an_end left right middle }
 {
-    if joints_unchanged(middle.joints, left.joints) {
-        return true;
-    }
-    joints_unchanged(middle.joints, right.joints)
+    joints_unchanged(middle.joints, left.joints) || joints_unchanged(middle.joints, right.joints)
 }
 
 // What becomes of two neighbours, of which the axes reached are at hand. They stand beside the items and not with them
 // in a struct: a call would read `verdict_with(p, tol, Reached { item: left, axis: left_axis }, Reached { .. })`.
 // Nor are the two items one struct, here, above or in machine: halving's test and midpoint (`divides`, `midpoint`) are
 // functions of two, and who calls has the two in two places, so that each call would make the struct for itself.
+// Chain and tolerances are apart: `midpoint` takes the one and `middle_within` the other, so that a struct of both
+// (crate turn has `Setting`) would be taken apart in the two functions that get them, here and in `segment_within`.
 pub fn verdict_with(
     p: Prepared,
     tol: Tolerances,

@@ -27,7 +27,8 @@ kinds : (model_fields (1 ∷ 0 ∷ 97 ∷ 1 ∷ 0 ∷ 66 ∷ []) ≡ breach 6) �
 unfolding breach model_fields links_of links links_within link_at link_fields kind_good whole_number whole_vector last_number number_fields spare little_endian
 kinds = (refl, refl)
 
--- the first, the third and the eighth number not whole; all whole; the seventh of a box not +0.0; a second link of one byte
+-- the first, the third and the eighth number not whole; all whole; the seventh of a box not +0.0; a second link of one
+-- byte
 numbers : (model_fields (boxed 0) ≡ breach 7)
     × (model_fields (boxed 23) ≡ breach 23)
     × (model_fields (boxed 63) ≡ breach 63)

@@ -1,6 +1,6 @@
--- Link frames: the frame that a chain's rotaries carry, each turned forth by its angle, the inner joint first. Tables stand still; heads move with the gauge point.
+-- Link frames: the frame that a chain's rotaries carry, each turned forth by its angle, the inner joint first. Tables
+-- stand still; heads move with the gauge point.
 use Rattle.std.specs.Prelude.{Bool, cond, ◌&&◌, List, [], ◌∷◌, ℕ, eqb, Float, Err, None, Ok, Option, Result, Some}
-use Rattle.geometry.specs.declared.Turn.{Turn}
 use Rattle.geometry.specs.declared.Vec3.{Vec3}
 use Rattle.geometry.specs.declared.Rigid.{Rigid}
 use Rattle.geometry.specs.Vector.{add}
@@ -27,10 +27,6 @@ unfoldable pub turns_forth : Float → Float → Turns
 turns_forth a0 a1 = record { first = turn_of a0; second = turn_of a1 }
 
 -- ---- the tables' chain and the heads', the inner joint first
--- by one rotary after the other, where f is how a rotary takes a vector along
-abbrev pub carried : (Spin → Turn → Vec3 → Vec3) → Prepared → Turns → Vec3 → Vec3
-carried f p t v = f p.first t.first (by_second p.second (λ s. f s t.second) v)
-
 unfoldable pub table_map_point : Prepared → Turns → Vec3 → Vec3
 table_map_point p t v = table_point p.first t.first (by_second p.second (λ s. table_point s t.second) v)
 

@@ -1,5 +1,7 @@
--- The bytes of a model are links to their end: a name and a carrier, each its length in two bytes and its bytes; a kind, 0 a box and 1 a cylinder; 8 numbers, of which a box uses 6 and has +0.0 for the
--- others. A breach is `Malformed` with the offset of the first bad field: a text's is that of its length, where the length is not whole or the text not all there.
+-- The bytes of a model are links to their end: a name and a carrier, each its length in two bytes and its bytes; a
+-- kind, 0 a box and 1 a cylinder; 8 numbers, of which a box uses 6 and has +0.0 for the others. A breach is `Malformed`
+-- with the offset of the first bad field: a text's is that of its length, where the length is not whole or the text not
+-- all there.
 use Rattle.std.specs.Prelude.{Bool, cond, ◌&&◌, List, [], ◌∷◌, map, ℕ, zero, suc, ◌+◌, ◌-◌, ltb, leb, length, Err, Ok, Result}
 use Rattle.std.proofs.Math.Nat.{le-add_right, le_refl}
 use Rattle.refusal.specs.declared.Refusal.{Refusal}
@@ -71,7 +73,7 @@ unfoldable pub links_within : ℕ → List ℕ → ℕ → ℕ → List Link
 links_within zero bytes from to = []
 links_within (suc n) bytes from to = cond (ltb from to) (link_at bytes from ∷ links_within n bytes (link_at bytes from).end to) []
 
--- a link has more than a byte, so that bound leaves none out (`links-more`, in proofs)
+-- a link has more than a byte, so that bound leaves none out (`links_more`, in proofs)
 unfoldable pub links : List ℕ → ℕ → ℕ → List Link
 links bytes from to = links_within (to - from) bytes from to
 

@@ -18,7 +18,9 @@ fn rotary_named(k: Kinematics, letter: u8) -> LinkKind
     LinkKind::Unknown
 }
 
-// The bytes base, table or head, or one letter that the chain has. The letters of a checked chain are capitals.
+// The bytes base, table or head, or one letter that the chain has. The letters of a checked chain are capitals. No
+// `match` with the texts in its arms: tried, and the last arm is reached in 15 ways, where the last `else` is in two,
+// each a goal of its own. The search proves none of the 13 that it was tried on.
 pub fn carrier_kind(k: Kinematics, carrier: &[u8]) -> LinkKind
     ensures { result ≡ S.carrier_kind k carrier.now }
 {

@@ -1,6 +1,8 @@
 // Where a link stands at given joints: in the machine frame, and in the part frame. A chain runs from its inner joint
 // outwards, each rotary turned by its angle.
 ghost use Rattle.std.specs.Prelude.{◌≡◌};
+ghost use Rattle.geometry.specs.Rigid.{from_axes, identity};
+ghost use Rattle.chain.specs.Forward.{carried};
 ghost use Rattle.chain.specs.Prepared.{prepared};
 ghost use Rattle.model.specs.Carrier.{carrier_kind};
 ghost use Rattle.model.specs.Frame as S;
@@ -8,13 +10,14 @@ ghost use Rattle.model.specs.Frame as S;
 use crate::carriers::{carrier_kind, known};
 use crate::{LinkKind, MachineModel};
 use chain::{
-    Carrier, Joints, Kinematics, Prepared, Spin, Turns, chain_within, demand, head_point,
+    Carrier, Joints, Kinematics, Prepared, Spin, Turns, carried, chain_within, demand, head_point,
     head_vector, joints_finite, joints_within, prepare, table_point, table_vector,
 };
 use geometry::{Rigid, Turn, Vec3};
 use refusal::{Cause, Refusal};
 
-// Each rotary forth, by its angle: two numbers, since `Angles` is a type of crate inverse, on which no model stands.
+// Each rotary forth, by its angle: two numbers, as with `turns_by` of crate chain. Each is of one rotary, and a
+// `Joints` would hand on a position that no turn reads.
 #[tactic(auto, unfolding(crate::specs::Frame::turns_forth))]
 pub fn turns_forth(a0: f64, a1: f64) -> Turns
     ensures { result ≡ S.turns_forth a0 a1 }
@@ -24,33 +27,36 @@ pub fn turns_forth(a0: f64, a1: f64) -> Turns
     Turns { first, second }
 }
 
-// A point or a direction with the inner rotary turned, then the first one: `turned` is how one rotary takes it along,
-// of a table or of a head. The two frames below stay apart: one of both would take a function for points and one for
-// directions, and hand the second on three times.
-//
 // A chain and its turns are two parameters, as in crate chain, to whose functions they go on: of a struct of both
 // `table_frame(part, turns)` would be `Turned { p: &part, turns: &turns }.table_frame()`.
-fn carried<F: Fn(Spin, Turn, Vec3) -> Vec3>(p: Prepared, turns: Turns, v: Vec3, turned: F) -> Vec3
+// A frame with that origin, and the axes carried along: `turned` is how one rotary takes a direction along, of a table
+// or of a head.
+fn carried_frame<F: Fn(Spin, Turn, Vec3) -> Vec3 + Copy>(
+    p: Prepared,
+    turns: Turns,
+    origin: Vec3,
+    turned: F,
+) -> Rigid
     requires { F.IsAlwaysCallable turned }
-    ensures { (f : Spin → Turn → Vec3 → Vec3) → ((s : Spin) (t : Turn) (u : Vec3) (r : Vec3) → F.post turned s t u r → r ≡ f s t u) → result ≡ S.carried f p turns v }
+    ensures { (f : Spin → Turn → Vec3 → Vec3) → ((s : Spin) (t : Turn) (u : Vec3) (r : Vec3) → F.post turned s t u r → r ≡ f s t u) → result ≡ from_axes origin (carried f p turns identity.axis_x) (carried f p turns identity.axis_y) (carried f p turns identity.axis_z) }
 {
-    let inner = p.second.map_or(v, |s| turned(s, turns.second, v));
-    turned(p.first, turns.first, inner)
+    let still = Rigid::identity();
+    let axis_x = carried(p, turns, still.axis_x, turned);
+    let axis_y = carried(p, turns, still.axis_y, turned);
+    let axis_z = carried(p, turns, still.axis_z, turned);
+    Rigid::from_axes(origin, axis_x, axis_y, axis_z)
 }
 
-// The frame that the tables carry: rigid_from_spins of the table chain.
+// The frame that the tables carry: rigid_from_spins of the table chain. By closures, here and for the heads: where a
+// function of crate chain is itself handed on, its contract has no file for this crate, and nothing is proved of it.
 #[tactic(auto, unfolding(crate::specs::Frame::table_frame))]
 fn table_frame(p: Prepared, turns: Turns) -> Rigid
     ensures { result ≡ S.table_frame p turns }
 {
-    let still = Rigid::identity();
     let point = |s: Spin, turn: Turn, v: Vec3| table_point(s, turn, v);
     let vector = |s: Spin, turn: Turn, v: Vec3| table_vector(s, turn, v);
-    let origin = carried(p, turns, still.origin, point);
-    let axis_x = carried(p, turns, still.axis_x, vector);
-    let axis_y = carried(p, turns, still.axis_y, vector);
-    let axis_z = carried(p, turns, still.axis_z, vector);
-    Rigid::from_axes(origin, axis_x, axis_y, axis_z)
+    let origin = carried(p, turns, Rigid::identity().origin, point);
+    carried_frame(p, turns, origin, vector)
 }
 
 // The frame that the heads carry, moved with the gauge point.
@@ -58,14 +64,10 @@ fn table_frame(p: Prepared, turns: Turns) -> Rigid
 fn head_frame(p: Prepared, turns: Turns, xyz: Vec3) -> Rigid
     ensures { result ≡ S.head_frame p turns xyz }
 {
-    let still = Rigid::identity();
     let point = |s: Spin, turn: Turn, v: Vec3| head_point(s, turn, v);
     let vector = |s: Spin, turn: Turn, v: Vec3| head_vector(s, turn, v);
-    let origin = carried(p, turns, still.origin, point) + xyz;
-    let axis_x = carried(p, turns, still.axis_x, vector);
-    let axis_y = carried(p, turns, still.axis_y, vector);
-    let axis_z = carried(p, turns, still.axis_z, vector);
-    Rigid::from_axes(origin, axis_x, axis_y, axis_z)
+    let origin = carried(p, turns, Rigid::identity().origin, point) + xyz;
+    carried_frame(p, turns, origin, vector)
 }
 
 #[tactic(auto, unfolding(crate::specs::Frame::rotary_at_index))]
@@ -108,11 +110,10 @@ pub fn frame_of(p: Prepared, turns: Turns, xyz: Vec3, kind: LinkKind) -> Rigid
     ensures { result ≡ S.frame_of p turns xyz kind }
 {
     match kind {
-        LinkKind::Base => Rigid::identity(),
+        LinkKind::Base | LinkKind::Unknown => Rigid::identity(),
         LinkKind::Table => table_frame(p, turns),
         LinkKind::Head => head_frame(p, turns, xyz),
         LinkKind::Rotary(index) => rotary_frame(p, turns, xyz, index),
-        LinkKind::Unknown => Rigid::identity(),
     }
 }
 

@@ -62,7 +62,7 @@ pub fn links_in(bytes: &[u8]) -> LinkIter<'_>
 fn kind_good(bytes: &[u8], kind: usize) -> bool
     ensures { result ≡ S.kind_good bytes.now kind }
 {
-    kind < bytes.len() && bytes[kind] < 2
+    bytes.get(kind).is_some_and(|byte| *byte < 2)
 }
 
 // The bound here, in `whole_vector` and in `last_number` is of sums that the refusals say: a test of `at + 8` stands
@@ -94,12 +94,12 @@ fn whole_vector(bytes: &[u8], at: usize) -> Result<(), Refusal>
 }
 
 // One of the last two numbers, which a box does not use.
-#[tactic(auto, unfolding(crate::specs::Model::last_number))]
+#[tactic(auto, unfolding(crate::specs::Model::last_number, crate::specs::Model::whole_number))]
 fn last_number(bytes: &[u8], kind: usize, at: usize) -> bool
     requires { at + 8 < 2 ^ 64 }
     ensures { result ≡ S.last_number bytes.now kind at }
 {
-    at + 8 <= bytes.len() && spare(bytes, kind, at)
+    whole_number(bytes, at) && spare(bytes, kind, at)
 }
 
 #[tactic(auto, unfolding(crate::specs::Model::number_fields))]

@@ -5,7 +5,6 @@ ghost use Rattle.model.specs.ModelCheck as S;
 use crate::carriers::{carrier_kind, known};
 use crate::link_solid::good_solid_at;
 use crate::model_bytes::{count_links, links_before, links_in, read_model};
-use crate::texts::text;
 use crate::{Link, MachineModel};
 use chain::{chain_check, chain_sizes, demand};
 use refusal::{Cause, Refusal};
@@ -15,7 +14,7 @@ use refusal::{Cause, Refusal};
 pub fn name_check(name: &[u8]) -> Result<(), Refusal>
     ensures { result ≡ S.name_check name.now }
 {
-    demand(0 < name.len(), Cause::NameEmpty, 0)?;
+    demand(!name.is_empty(), Cause::NameEmpty, 0)?;
     demand(name.len() <= 256, Cause::NameTooLong, 0)
 }
 
@@ -23,9 +22,7 @@ pub fn name_check(name: &[u8]) -> Result<(), Refusal>
 fn same_name(bytes: &[u8], left: Link, right: Link) -> bool
     ensures { result ≡ S.same_name bytes.now left right }
 {
-    let first = text(bytes, left.name + 2, left.carrier);
-    let second = text(bytes, right.name + 2, right.carrier);
-    first == second
+    left.name_in(bytes) == right.name_in(bytes)
 }
 
 // Whether an earlier link has the link's name.
@@ -44,9 +41,9 @@ impl MachineModel<'_> {
         ensures { result ≡ S.link_check self.now.chain self.now.bytes.now link index }
     {
         let bytes = self.bytes;
-        name_check(text(bytes, link.name + 2, link.carrier))?;
+        name_check(link.name_in(bytes))?;
         demand(!named_before(bytes, link), Cause::LinkNameTwice, index)?;
-        let kind = carrier_kind(self.chain, text(bytes, link.carrier + 2, link.kind));
+        let kind = carrier_kind(self.chain, link.carrier_in(bytes));
         demand(known(kind), Cause::CarrierUnknown, index)?;
         demand(good_solid_at(bytes, link), Cause::SolidBad, index)
     }

@@ -4,7 +4,7 @@ use native.Mathlib.Numerals.{add-one, towards_suc}
 use native.Mathlib.Nat.{sub-zero}
 use native.Mathlib.Omega.{arith}
 use mathlib.Core.Path.{◌≡◌, refl, sym, ap, ◌∙◌}
-use mathlib.Core.List.{List, [], ◌∷◌, ◌++◌, append-nil}
+use mathlib.Core.List.{List, [], ◌∷◌, ◌++◌, append-nil, append_assoc}
 use lib.ListN.{length, replicate, take, drop, length-set, length-append}
 use lib.Seq.{sets, sets-eq, take_at, length-take-le, drop-drop}
 use lib.Ieee.{Float}
@@ -46,6 +46,9 @@ before_end (k ∷ l) = ap (then_on k) (before_end l)
 pub joints_sets : (j : Joints) (l : List Float) (b : ℕ) → joints_over j l b ≡ sets l b (joint_numbers j)
 unfolding joints_over
 joints_sets j l b = simp towards_suc
+
+pub joints_between : (j : Joints) (l : List Float) (b : ℕ) → b + 5 ≤ length l → take b l ++ (joint_numbers j ++ drop (b + 5) l) ≡ joints_over j l b
+joints_between j l b h = sym (joints_sets j l b ∙ sets-eq (joint_numbers j) l b h ∙ append_assoc (take b l) (joint_numbers j) (drop (b + 5) l))
 
 joints_put : (j : Joints) (l : List Float) (b : ℕ) → b + 5 ≤ length l → take (b + 5) (joints_over j l b) ≡ take b l ++ joint_numbers j
 joints_put j l b h =

@@ -1,4 +1,5 @@
--- Outside the cone: the solutions of the raw angles, at most two; the closest to the angles before, as long as it is within the limits; else the other one, if that is within them and on the same branch.
+-- Outside the cone: the solutions of the raw angles, at most two; the closest to the angles before, as long as it is
+-- within the limits; else the other one, if that is within them and on the same branch.
 -- The position is that of the raw angles, the answer's angles are unwound.
 use Rattle.std.specs.Prelude.{Bool, true, false, not, cond, None, Ok, Option, Result, Some}
 use Rattle.float.specs.Helpers.{nought}

@@ -1,4 +1,5 @@
--- Inside the cone: one rotary keeps its angle, the other brings the tool axis as near as it can. The position comes from the unwound angles.
+-- Inside the cone: one rotary keeps its angle, the other brings the tool axis as near as it can. The position comes
+-- from the unwound angles.
 use Rattle.std.specs.Prelude.{Bool, not, cond, Float, Err, None, Ok, Option, Result, Some}
 use Rattle.std.specs.Float.Ieee as Ieee
 use Rattle.float.specs.Helpers.{nought}

@@ -1,4 +1,5 @@
--- One pose of a path, in the order of its checks: 25 for its axis, 16 and 17 for its tip, then the solution, inside the cone or outside, and 26.
+-- One pose of a path, in the order of its checks: 25 for its axis, 16 and 17 for its tip, then the solution, inside the
+-- cone or outside, and 26.
 use Rattle.std.specs.Prelude.{Bool, false, not, cond, ◌&&◌, ℕ, eqb, Float, Err, None, Ok, Option, Result, Some, true}
 use Rattle.refusal.specs.declared.Refusal.{Refusal}
 use Rattle.refusal.specs.declared.Cause.{Cause}

@@ -1,4 +1,5 @@
--- What a path's joints promise, whatever the start and the cone: this is solve_path's part of the price list's statement, and what division stands on.
+-- What a path's joints promise, whatever the start and the cone: this is solve_path's part of the price list's
+-- statement, and what division stands on.
 use Rattle.std.specs.Prelude.{◌≡◌, true, false, eqb}
 use Rattle.lists.specs.Each.{Each}
 use Rattle.float.specs.Helpers.{nought}
@@ -9,7 +10,8 @@ use Rattle.path.specs.Unwinding.{inside}
 use Rattle.path.specs.Posing.{bounds_of, turned_within}
 use Rattle.path.specs.Solving.{PathAnswer, Along, AtPose, Kept}
 
--- every number is finite; no angle is outside its rotary's limits, or past 36,000 degrees; the angle of a rotary that the chain has not is +0.0
+-- every number is finite; no angle is outside its rotary's limits, or past 36,000 degrees; the angle of a rotary that
+-- the chain has not is +0.0
 pub record Served (k : Kinematics) (j : Joints) : Type 0 where
   pub numbers : joints_finite j ≡ true
   pub limits : inside (bounds_of k) j ≡ true

@@ -1,4 +1,5 @@
--- A path over lent numbers: the checks before the first pose, as one list, then pose after pose, each from the angles before it.
+-- A path over lent numbers: the checks before the first pose, as one list, then pose after pose, each from the angles
+-- before it.
 use Rattle.std.specs.Prelude.{Bool, true, not, ◌&&◌, List, [], ◌∷◌, ℕ, suc, ◌+◌, ◌/◌, ◌%◌, eqb, leb, length, get_or, set, replicate, drop, Float, Err, None, Ok, Option, Result, Some}
 use Rattle.std.specs.Float.Ieee as Ieee
 use Rattle.std.specs.Float.{nan, binary64}
@@ -41,7 +42,8 @@ unfoldable pub joints_over : Joints → List Float → ℕ → List Float
 joints_over j l at = set (set (set (set (set l at j.xyz.x) (at + 1) j.xyz.y) (at + 2) j.xyz.z) (at + 3) j.a0) (at + 4) j.a1
 
 -- ---- pose after pose
--- what a path comes to: joint sets in order, a refusal at a pose, or a refusal before the first, which keeps what is lent
+-- what a path comes to: joint sets in order, a refusal at a pose, or a refusal before the first, which keeps what is
+-- lent
 pub data PathAnswer : Type 0 where
   Along : List Joints → PathAnswer
   AtPose : Refusal → PathAnswer

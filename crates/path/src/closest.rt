@@ -28,6 +28,7 @@ fn kept(s: &Setup, aim: &Aim, angles: Angles, unwound: Angles) -> Option<Joints>
 }
 
 // From 0 to 8,100, and from 10,000 on: the root of the one is at most 90, that of the other at least 100.
+// By comparisons, as the definition has it: `contains` of a range has a flag besides, and the check does not find it.
 #[tactic(auto, unfolding(crate::specs::Closest::far_apart))]
 fn far_apart(near: f64, far: f64) -> bool
     ensures { result ≡ S.far_apart near far }

@@ -174,7 +174,9 @@ fn of_raw(s: &Setup, aim: &Aim, one: Option<Angles>, two: Option<Angles>) -> Res
 }
 
 // Of bounded numbers both solutions have a finite position, so that the closer one alone can be the answer. Both
-// parameters are values, since what lies behind a reference is not known here to be doubles.
+// parameters are values: by `&CheckedSetup` and `&Aim` it was tried, and the proof misses that the chain's and the
+// tip's numbers are doubles, which the law of finite positions asks (`one_enough`). A reference says only where it
+// points, and a copy taken of it (`let s = *s;`) no more.
 pub fn exact_pose(s: CheckedSetup, aim: Aim) -> Result<Joints, Refusal>
     ensures { result ≡ S.exact_pose s.setup aim.target aim.tip aim.previous }
 {

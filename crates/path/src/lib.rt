@@ -28,7 +28,7 @@ pub use unwinding::inside;
 
 // One rotary whose axis is the singular direction, the second or the first, and the unit direction of that axis, in the
 // sense of the spindle. The cone is the same about the opposite direction. `on_second` is no enum: no other field means
-// something else by it, and `locks_x` compares it with the map's flag, `map.swapped == f.on_second`.
+// something else by it, and `locks_x` compares it with the map's flag, `map.swapped == on_second`.
 #[derive(Clone, Copy)]
 pub struct SingularFrame {
     pub on_second: bool,
@@ -66,8 +66,8 @@ pub struct CheckedSetup {
 }
 
 // What is asked of one pose: the unit direction of the tool and the place of its tip, from the angles before. It goes
-// beside its `Setup`, and not in one struct with it: one setup is asked of twice where the lock strays, and written
-// `Asked { s, aim: &pole }` it would be made again there to call one function.
+// beside its `Setup`, and not in one struct with it: fifteen functions would say `asked.s.chain` and `asked.aim.target`
+// for `s.chain` and `aim.target`, and where the lock strays one setup is asked of twice, so a second struct is made.
 #[derive(Clone, Copy)]
 pub struct Aim {
     pub target: Vec3,

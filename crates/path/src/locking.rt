@@ -160,15 +160,12 @@ fn locked_joints(s: &Setup, on_second: bool, aim: &Aim) -> Result<Joints, Refusa
     placed_at(p, aim.tip, s.bounds.unwind_angles(locked, previous))
 }
 
-// Whether the axis that the joints reach is further from its target than the cone is wide. The pose is two calls of
-// crate chain, as in `pose_of` of crate middle above: one call of both would spare the line of `turns`, and no more.
+// Whether the axis that the joints reach is further from its target than the cone is wide.
 #[tactic(auto, unfolding(crate::specs::Locking::strays))]
 fn strays(s: &Setup, target: Vec3, j: Joints) -> bool
     ensures { result ≡ S.strays s.now target j }
 {
-    let p = s.chain;
-    let turns = chain::turns_of(p, j.a0, j.a1);
-    let achieved = chain::forward_core(p, turns, j.xyz, 0.0);
+    let achieved = chain::pose_at(s.chain, j, 0.0);
     s.cone + 1e-6 < geometry::angle_between_deg(achieved.axis, target)
 }
 

@@ -139,9 +139,10 @@ fn solved_tip(
 fn solved_pose(s: &CheckedSetup, pose: ToolPose, previous: Angles) -> Result<Joints, Refusal>
     ensures { result ≡ S.solved_pose s.now.setup pose previous }
 {
-    let Some(target) = geometry::unit_direction(pose.axis) else {
-        return refused(Cause::PoseUnreachable);
-    };
+    let target = geometry::unit_direction(pose.axis).ok_or(Refusal::new(
+        Cause::PoseUnreachable,
+        0,
+    ))?;
     solved_tip(s, target, pose.tip, previous)
 }
 

@@ -15,8 +15,8 @@ use geometry::Vec3;
 use inverse::Angles;
 use refusal::{Cause, Refusal};
 
-// The pose whose six numbers begin there. By a slice and a place, as the walks over a path have them: with a
-// `From<[f64; 6]>` each would write `poses[at..].first_chunk::<6>()`, and answer for a slice that is too short.
+// The pose whose six numbers begin there. By a slice and a place: who calls has flat numbers and a place, or one
+// record, which is a slice at 0. A second function of `&[f64; 6]` would be the same lines again.
 #[tactic(auto, unfolding(crate::specs::Solving::pose_in))]
 pub fn pose_in(poses: &[f64], at: usize) -> ToolPose
     requires { at + 6 ≤ length poses.now }
@@ -40,12 +40,7 @@ pub fn put_joints(j: Joints, out: &mut [f64], at: usize)
     requires { at + 5 ≤ length out.old }
     ensures { out.new ≡ S.joints_over j out.old at }
 {
-    let xyz = j.xyz;
-    out[at] = xyz.x;
-    out[at + 1] = xyz.y;
-    out[at + 2] = xyz.z;
-    out[at + 3] = j.a0;
-    out[at + 4] = j.a1;
+    out[at..at + 5].copy_from_slice(&[j.xyz.x, j.xyz.y, j.xyz.z, j.a0, j.a1]);
 }
 
 // +0.0 from an index on.
@@ -87,6 +82,8 @@ pub fn cone_good(cone: f64) -> bool
     float::finite(cone) && 0.0 < cone && cone <= 10.0
 }
 
+// In closures, here and below. Tried by the name, `is_none_or(chain::joints_finite)`: the proof has no contract for a
+// function that lies in a private module of another crate.
 fn start_finite(start: Option<Joints>) -> bool
     ensures { result ≡ S.start_finite start }
 {
@@ -102,7 +99,7 @@ fn start_within(start: Option<Joints>) -> bool
 fn start_angles(start: Option<Joints>) -> Angles
     ensures { result ≡ S.start_angles start }
 {
-    start.map_or(Angles::default(), |j| Angles::from(j))
+    start.map_or(Angles::default(), Angles::from)
 }
 
 #[tactic(auto, unfolding(crate::specs::Solving::whole_records))]
@@ -139,8 +136,8 @@ pub fn solve_check(
     demand(numbers / 6 <= room / 5, Cause::NoSpace, 0)
 }
 
-// Each pose in turn, by its index, which a refusal says and the place in `out` is made of: with
-// `for (i, pose) in poses.as_chunks::<6>().0.iter().enumerate()` it would stand in the loop all the same.
+// Each pose in turn, by its index, of which the place in `out` is made: of what was written through `as_chunks_mut` a
+// proof knows the length and not the numbers.
 fn solve_poses(
     s: &CheckedSetup,
     start: Angles,

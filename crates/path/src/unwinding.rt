@@ -39,15 +39,12 @@ fn split(left: f64, right: f64) -> bool
     90.0 < float::size(left - right)
 }
 
-// Within the limits, or finite where there are none. As `allowed` of crate inverse but for the last test: with that as
-// a closure, `limited_or(travel, angle, |x| float::finite(x))` would be as long as the arm that it stands for.
+// Within the limits, or finite where there are none. As `allowed` of crate inverse but for the last test: one function
+// of both would be `limited_or(travel, angle, float::finite(angle))`, and hide a `map_or`.
 fn permits(travel: Option<RotaryLimits>, angle: f64) -> bool
     ensures { result ≡ S.permits travel angle }
 {
-    match travel {
-        Some(limits) => limits.contains(angle),
-        None => float::finite(angle),
-    }
+    travel.map_or(float::finite(angle), |limits| limits.contains(angle))
 }
 
 // Over the rotaries that there are: the second angle of a chain of one is not looked at.

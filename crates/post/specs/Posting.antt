@@ -1,4 +1,5 @@
--- What the program writes for the bytes that it reads, as one text: `post`. Space is for 700 poses, and the path is solved from angles zero.
+-- What the program writes for the bytes that it reads, as one text: `post`. Space is for 700 poses, and the path is
+-- solved from angles zero.
 -- `NeverRefused`: a path that division served is never refused afterwards.
 use Rattle.std.specs.Prelude.{ℕ, ◌≡◌, List, [], map, Float, Err, None, Ok, Result}
 use Rattle.turn.specs.Stops.{cause_of}

@@ -4,25 +4,36 @@ ghost use Rattle.std.specs.Prelude.{◌/◌, ◌≤◌, ◌≡◌, length, take}
 ghost use Rattle.divide.specs.Subdividing.{division_in, joints_left};
 ghost use Rattle.job.specs.Cable.{joint_sets};
 ghost use Rattle.job.specs.Telling.{text_of};
+ghost use Rattle.post.specs.declared.answering.TheConstants.{DIVIDED, JOINTS, POSES, TEXT};
 ghost use Rattle.post.specs.Posting as S;
 ghost use Rattle.post.specs.Steps as Steps;
 
 use chain::Kinematics;
 use divide::DivisionError;
 use job::{Figures, Job, JobError};
-use refusal::{Cause, Refusal};
+use refusal::Refusal;
 
-// Room for the 1,362 poses that a job may have, for 700 in its path, and for the text of so many.
+// How many numbers the 1,362 poses are that a job may have, the 700 poses of its path, and the joint sets of those; and
+// how many bytes the text of so many.
+pub const POSES: usize = 8172;
+
+pub const DIVIDED: usize = 4200;
+
+pub const JOINTS: usize = 3500;
+
+pub const TEXT: usize = 65536;
+
+// Room for all of it.
 #[derive(Drop)]
 pub struct Room {
-    pub poses: [f64; 8172],
-    pub divided: [f64; 4200],
-    pub joints: [f64; 3500],
-    pub text: [u8; 65536],
-    ghost for_poses: { length poses ≡ 8172 },
-    ghost for_divided: { length divided ≡ 4200 },
-    ghost for_joints: { length joints ≡ 3500 },
-    ghost for_text: { length text ≡ 65536 },
+    pub poses: [f64; POSES],
+    pub divided: [f64; DIVIDED],
+    pub joints: [f64; JOINTS],
+    pub text: [u8; TEXT],
+    ghost for_poses: { length poses ≡ POSES },
+    ghost for_divided: { length divided ≡ DIVIDED },
+    ghost for_joints: { length joints ≡ JOINTS },
+    ghost for_text: { length text ≡ TEXT },
 }
 
 // The front of the text is the answer.
@@ -90,14 +101,8 @@ fn ended_by(
         Ok(n) => wound(k, n, path),
         Err(DivisionError::Refused(r)) => Err(r.into()),
         Err(DivisionError::AtPose(r)) => Err(JobError::AtPose(r)),
-        Err(DivisionError::Stopped(stop)) => without_path(stop.cause()),
+        Err(DivisionError::Stopped(stop)) => Err(Refusal::from(stop).into()),
     }
-}
-
-fn without_path(cause: Cause) -> Result<Figures, JobError>
-    ensures { result ≡ S.without_path cause }
-{
-    Err(Refusal::new(cause, 0).into())
 }
 
 // The cable numbers of both rotaries on a path.

@@ -4,7 +4,7 @@
 
 mod answering;
 
-use answering::Room;
+use answering::{DIVIDED, JOINTS, POSES, Room, TEXT};
 use std::io;
 use std::io::Write;
 use text::read_full;
@@ -18,10 +18,10 @@ fn main(rt: HostRuntime) -> io::Result<()> {
 
 fn answer<W: Write>(out: &mut W, bytes: &[u8]) -> io::Result<()> {
     let mut room = Room {
-        poses: [0.0; 8172],
-        divided: [0.0; 4200],
-        joints: [0.0; 3500],
-        text: [0; 65536],
+        poses: [0.0; POSES],
+        divided: [0.0; DIVIDED],
+        joints: [0.0; JOINTS],
+        text: [0; TEXT],
     };
     let end = answering::post(bytes, &mut room);
     out.write_all(&room.text[..end])

@@ -1,4 +1,5 @@
--- The inner form of forward, on a chain that was prepared once: all the numbers of every pose, added up, so that a benchmark can time it without a buffer.
+-- The inner form of forward, on a chain that was prepared once: all the numbers of every pose, added up, so that a
+-- benchmark can time it without a buffer.
 use Rattle.std.specs.Prelude.{ℕ, zero, suc, ◌+◌, ◌*◌, ◌/◌, List, length, get_or, Float, Err, Ok, Result}
 use Rattle.std.specs.Float.{nan}
 use Rattle.refusal.specs.declared.Refusal.{Refusal}

@@ -8,7 +8,7 @@ ghost use Rattle.geometry.specs.Vector.{plus};
 ghost use Rattle.chain.specs.ChainBytes.{read_chain};
 ghost use Rattle.probe.specs.Forwards as S;
 
-use chain::{Prepared, ToolPose};
+use chain::{Joints, Prepared, ToolPose};
 use geometry::Vec3;
 
 // 0.0 where the chain's bytes are refused.
@@ -38,9 +38,9 @@ fn sum_of(p: Prepared, set: &[f64; 5], tool_length: f64) -> f64
     ensures { result ≡ S.sum_at p set.now tool_length 0 }
 {
     let [x, y, z, a0, a1] = *set;
-    let turns = chain::turns_of(p, a0, a1);
-    let pose = chain::forward_core(p, turns, Vec3 { x, y, z }, tool_length);
-    pose_sum(pose)
+    let xyz = Vec3 { x, y, z };
+    let joints = Joints { xyz, a0, a1 };
+    pose_sum(chain::pose_at(p, joints, tool_length))
 }
 
 #[tactic(auto, unfolding(crate::specs::Forwards::pose_sum))]

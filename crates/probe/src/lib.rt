@@ -100,7 +100,8 @@ pub extern "C" fn probe_total_cmp(x: f64, y: f64) -> u32
     }
 }
 
-// The root of each of xs, written to answers as far as both reach.
+// The root of each of xs, written to answers as far as both reach. By index: tried with `zip`, under which the loop's
+// invariant can name what is left to write and to read, but not the answers that are written.
 #[unsafe(no_mangle)]
 pub extern "C" fn probe_roots(xs: &[f64], answers: &mut [f64])
     ensures { answers.new ≡ roots_over xs.now answers.old }

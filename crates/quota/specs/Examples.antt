@@ -19,7 +19,8 @@ order : (shop_check 32 31 ≡ Ok tt) × (shop_check 31 31 ≡ Err (refusal Cause
 unfolding shop_check
 order = (refl, refl, refl, refl)
 
--- a balance of 7: a count of 7 is paid for, one of 8 is 35, and a refused division is left as it is; a count of 0 needs none
+-- a balance of 7: a count of 7 is paid for, one of 8 is 35, and a refused division is left as it is; a count of 0 needs
+-- none
 seven : (settled 7 (Halved (Done 7 [])) ≡ Halved (Done 7 [])) × (settled 7 (Halved (Done 8 [])) ≡ Cleared (refusal Cause.BalanceShort 0)) × (settled 7 (Halved (TooMany 10000)) ≡ Halved (TooMany 10000))
     × (settled 0 (Halved (Done 0 [])) ≡ Halved (Done 0 []))
 unfolding settled charge

@@ -20,11 +20,11 @@ pub fn shop_check(balances: usize, shop: u64) -> Result<(), Refusal>
     demand(balances as u64 == SHOPS, Cause::LengthsDiffer, 0)
 }
 
-// Whether the balance stays within the limit. No sum is taken that could be too large for its type.
+// Whether the balance stays within the limit.
 fn room(balance: u64, amount: u64) -> bool
     ensures { result ≡ leb (balance + amount) S.most_balance }
 {
-    amount <= MOST && balance <= MOST - amount
+    balance.checked_add(amount).is_some_and(|sum| sum <= MOST)
 }
 
 // The amount added to the balance of the shop.

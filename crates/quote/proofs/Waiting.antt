@@ -1,19 +1,20 @@
 -- What waits: the joint sets on the stack, each with the pose that it reaches, then the given items. A law each for one
 -- that is taken from either, and for one that is put.
 use Prim.Native.Nat.{ℕ, suc, ◌+◌, ◌-◌, ◌*◌, ◌≤◌, ◌<◌}
-use native.Mathlib.Numerals.{add-one, towards_suc}
+use native.Mathlib.Numerals.{add-one}
 use native.Mathlib.Omega.{arith}
 use mathlib.Core.Path.{◌≡◌, sym, ap, ◌∙◌}
 use mathlib.Core.List.{List, [], ◌∷◌, ◌++◌, map, head-eq_of_cons-eq}
 use borrow.Author.Tests.{ne_eqb}
 use lib.ListN.{length, drop, set, length-set, drop_of_length-le}
-use lib.Seq.{drop-cons, get_or-set_same, drop-set-lt, sets}
+use lib.Seq.{drop-cons, get_or-set_same, drop-set-lt}
 use lib.Ieee.{Float}
 use Rattle.lists.specs.Rows.{rows}
 use Rattle.lists.proofs.Rows.{length_rows, get_or_rows, set_rows}
 use Rattle.chain.specs.declared.Joints.{Joints}
 use Rattle.chain.specs.declared.Prepared.{Prepared}
-use Rattle.path.specs.Solving.{joint_numbers, joints_over}
+use Rattle.path.specs.Solving.{joints_over}
+use Rattle.path.proofs.Walking.{joints_sets}
 use Rattle.middle.specs.declared.Item.{Item}
 use Rattle.turn.specs.Items.{joints_from, joints_in, item_at, items_in}
 use Rattle.turn.specs.Turning.{absent}
@@ -54,10 +55,6 @@ pub take_stacked : (p : Prepared) (count top next : ℕ) (lent solved stack : Li
     → waits p count top next lent solved stack ≡ arrived p (joints_in stack (top * 5)) ∷ waits p count (top + 1) next lent solved stack
 unfolding waits
 take_stacked p count top next lent solved stack h = ap (λ (a : List Item). a ++ drop next (items_in count lent solved)) (one_stacked p top stack h)
-
-joints_sets : (j : Joints) (l : List Float) (b : ℕ) → joints_over j l b ≡ sets l b (joint_numbers j)
-unfolding joints_over
-joints_sets j l b = simp towards_suc
 
 pub over_long : (j : Joints) (l : List Float) (b : ℕ) → length (joints_over j l b) ≡ length l
 unfolding joints_over

@@ -1,5 +1,7 @@
 -- A quotation. `Quotation`: its figures, its checks and what it leaves of the scratch. `AsDivided`: its figures beside
--- those of a division. `QuotationSteps`: how the program finds them, which need not be read.
+-- those of a division. `Refused`: what is refused where it has none. `QuotationSteps`: how the program finds the
+-- figures, which need not be read.
 pub mod Quotation
+pub mod Refused
 pub mod AsDivided
 pub mod QuotationSteps

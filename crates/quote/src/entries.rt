@@ -6,14 +6,14 @@ ghost use Rattle.quote.specs.Quotation as S;
 ghost use Rattle.quote.specs.AsDivided.{AsDivided};
 
 use crate::checking::quote_check;
-use crate::stepping::{NUMBERS, QuotedPath};
+use crate::stepping::{NUMBERS, QuotedPath, STACK};
 use crate::{Figures, QuoteError};
 use chain::Kinematics;
 use middle::Tolerances;
 use turn::{GivenPath, Stop};
 
 // The numbers of 10,000 tips.
-const TIPS: usize = 30000;
+const TIPS: usize = STACK * 3;
 
 // A path that the checks let pass.
 #[derive(Clone, Copy)]
@@ -46,11 +46,9 @@ impl CheckedPath<'_> {
         ensures { let g = self.now.given in result ≡ S.quote_checked self.now.k self.now.tol g.poses.now g.joints.now (length stack.old) room_tips }
     {
         if room_tips < TIPS {
-            return Err(QuoteError::Stopped(Stop::NoSpace(0)));
+            return Err(Stop::NoSpace(0).into());
         }
-        let Some(waiting) = stack.first_chunk_mut() else {
-            return Err(QuoteError::Stopped(Stop::NoSpace(0)));
-        };
+        let waiting = stack.first_chunk_mut().ok_or(Stop::NoSpace(0))?;
         self.quotation(waiting)
     }
 

@@ -4,6 +4,7 @@
 
 ghost use Rattle.std.specs.Prelude.{◌≡◌};
 ghost use Rattle.quote.specs.declared.QuoteError.TheVariants.{Refused, Stopped};
+ghost use Rattle.quote.specs.Refused.{refusal_of};
 
 mod checking;
 mod entries;
@@ -46,6 +47,18 @@ impl From<Stop> for QuoteError {
 
     fn from(s: Stop) -> QuoteError {
         QuoteError::Stopped(s)
+    }
+}
+
+// The refusal that C is told. It has no place where the quotation ended before its time.
+impl From<QuoteError> for Refusal {
+    ghost from_gives = { λ e r. r ≡ refusal_of e };
+
+    fn from(e: QuoteError) -> Refusal {
+        match e {
+            QuoteError::Refused(refusal) => refusal,
+            QuoteError::Stopped(stop) => stop.into(),
+        }
     }
 }
 

@@ -24,9 +24,9 @@ pub struct QuotedPath<'a> {
 }
 
 // How many joint sets may wait, and how many numbers they are.
-const STACK: usize = 10000;
+pub const STACK: usize = 10000;
 
-pub const NUMBERS: usize = 50000;
+pub const NUMBERS: usize = STACK * 5;
 
 // How many forward evaluations a test counts: the axes that the two joint sets reach, and their midpoint.
 const PER_TEST: u64 = 3;
@@ -63,13 +63,14 @@ fn waiting_axis(top: usize, right: Item, end_axis: Vec3) -> Vec3
     if top == STACK {
         return end_axis;
     }
-    let pose = right.pose;
-    pose.axis
+    right.pose.axis
 }
 
 // The bounds of a place are no ghost fields: `past` and `with_midpoint` of specs/ make a place of any numbers, and so
 // could not be written. A struct around it is no plainer: of the bounds it could keep `top` alone, since that the
-// evaluations stay below theirs is not known of one step; the loop's invariant has it. `tested` is of no struct.
+// evaluations stay below theirs is not known of one step; the loop's invariant has it. `tested`, with its bound, is no
+// struct either: `cost` alone would make one, and each of the four clauses that say `tested ≤ 10` would name the
+// number as `tested.evaluations` instead.
 impl Place {
     fn past(&mut self, right: Item, tested: u64)
         requires { ((self.old.top ≤ 10000) × (self.old.next ≤ 100000)) × ((self.old.evaluations ≤ 1000000000) × (tested ≤ 10)) }
@@ -96,7 +97,9 @@ impl Place {
 
 // A step changes the state where it stands: with each given back by value it is slower by its copies.
 impl Quoter {
-    // A midpoint more is one too many, or waits before the first that does.
+    // A midpoint more is one too many, or waits before the first that does. None is the only way in which a step ends
+    // the run, and the definitions answer an Option too: with a `Result<(), Stop>` this contract and those of `advance`
+    // and `run` would have to say besides that the stop is always the one that `figures` names.
     fn insert(&mut self, middle: Item, tested: u64, stack: &mut [f64; NUMBERS]) -> Option<()>
         requires { ((10000 ≤ self.old.place.top + self.old.place.inserted) × (self.old.place.inserted ≤ 10000)) × (((self.old.place.evaluations ≤ 1000000000) × (tested ≤ 10)) × (self.old.place.top ≤ 10000)) }
         ensures step { S.left_by result self.new ≡ S.inserting self.old middle tested }
@@ -113,29 +116,26 @@ impl Quoter {
     }
 }
 
-impl<'a> QuotedPath<'a> {
+impl QuotedPath<'_> {
     #[tactic(auto, unfolding(crate::specs::QuotationSteps::next_given))]
     fn next_given(&self, next: usize) -> usize
         ensures same { result ≡ S.next_given self.now.given.count next }
         ensures within { result < self.now.given.count }
     {
-        if next < self.given.count {
-            return next;
-        }
-        self.given.count - 1
+        next.min(self.given.count - 1)
     }
 
     // `top == STACK` is an empty stack, as an index at the end is of a slice: an `Option` of the top would be matched
-    // in the same four functions. Not of a `Place`, since `end_after` takes the top before a step and `next` after it.
+    // in the same four functions.
     #[tactic(auto, unfolding(crate::specs::QuotationSteps::first_waiting))]
-    fn first_waiting(&self, top: usize, next: usize, stack: &[f64; NUMBERS]) -> Item
-        requires { top ≤ 10000 }
-        ensures { let g = self.now.given in result ≡ S.first_waiting self.now.p g.count top next g.poses.now g.joints.now stack.now }
+    fn first_waiting(&self, s: Place, stack: &[f64; NUMBERS]) -> Item
+        requires { s.top ≤ 10000 }
+        ensures { let g = self.now.given in result ≡ S.first_waiting self.now.p g.count s.top s.next g.poses.now g.joints.now stack.now }
     {
-        if top == STACK {
-            return self.given.item(self.next_given(next));
+        if s.top == STACK {
+            return self.given.item(self.next_given(s.next));
         }
-        arrived(self.p, joints_in(stack, top * 5))
+        arrived(self.p, joints_in(stack, s.top * 5))
     }
 
     // The place with all that is kept of the evaluations.
@@ -143,7 +143,7 @@ impl<'a> QuotedPath<'a> {
         requires { (s.top ≤ 10000) × ((left_axis ≡ reached self.now.p s.left) × (end_axis ≡ axis_at self.now.p self.now.given.joints.now (S.next_given self.now.given.count s.next))) }
         ensures { let g = self.now.given in result ≡ S.keeping self.now.p g.count s g.poses.now g.joints.now stack.now }
     {
-        let right = self.first_waiting(s.top, s.next, stack);
+        let right = self.first_waiting(s, stack);
         let right_axis = waiting_axis(s.top, right, end_axis);
         Quoter {
             place: s,
@@ -155,6 +155,7 @@ impl<'a> QuotedPath<'a> {
     }
 
     // The axis of the next given joint set, once the first that waits stays: it is another where that was a given one.
+    // Not of a `Place`: the top is the one before a step, and `next` the one after it.
     #[tactic(auto, unfolding(crate::specs::QuotationSteps::end_after))]
     fn end_after(&self, top: usize, next: usize, end_axis: Vec3) -> Vec3
         ensures { let g = self.now.given in result ≡ S.end_after self.now.p g.count top next end_axis g.joints.now }
@@ -174,7 +175,7 @@ impl<'a> QuotedPath<'a> {
         m.place.past(m.right, tested);
         m.left_axis = m.right_axis;
         m.end_axis = self.end_after(top, m.place.next, m.end_axis);
-        m.right = self.first_waiting(m.place.top, m.place.next, stack);
+        m.right = self.first_waiting(m.place, stack);
         m.right_axis = waiting_axis(m.place.top, m.right, m.end_axis);
     }
 

@@ -7,26 +7,19 @@ use std::io;
 use std::io::Write;
 
 pub fn sine<W: Write>(out: &mut W, case: &Case) -> io::Result<()> {
-    let x = case.single(0);
-    let call = |answer: &mut f64| maztubel_sine(x, answer);
-    judge(out, "sine", call, case.single(1), case.single(2))
+    judge(out, case, 0, "sine", maztubel_sine)
 }
 
 pub fn cosine<W: Write>(out: &mut W, case: &Case) -> io::Result<()> {
-    let x = case.single(0);
-    let call = |answer: &mut f64| maztubel_cosine(x, answer);
-    judge(out, "cosine", call, case.single(1), case.single(2))
+    judge(out, case, 0, "cosine", maztubel_cosine)
 }
 
 pub fn arccosine<W: Write>(out: &mut W, case: &Case) -> io::Result<()> {
-    let x = case.single(0);
-    let call = |answer: &mut f64| maztubel_arccosine(x, answer);
-    judge(out, "arccosine", call, case.single(1), case.single(2))
+    judge(out, case, 0, "arccosine", maztubel_arccosine)
 }
 
 pub fn arctangent<W: Write>(out: &mut W, case: &Case) -> io::Result<()> {
     let y = case.single(0);
-    let x = case.single(1);
-    let call = |answer: &mut f64| maztubel_arctangent(y, x, answer);
-    judge(out, "arctangent", call, case.single(2), case.single(3))
+    let of_x = |x: f64, answer: &mut f64| maztubel_arctangent(y, x, answer);
+    judge(out, case, 1, "arctangent", of_x)
 }

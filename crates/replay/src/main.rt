@@ -19,20 +19,17 @@ use text::read_full;
 
 const MOST_CASES: usize = 100000;
 
+// Until the input ends. Tried as `while next_case(..)? {}`: such a loop wants a number that grows smaller, and of
+// standard input nothing says how much is left. So the turns are counted.
 fn main(rt: HostRuntime) -> io::Result<()> {
+    let mut input = rt.stdin();
     let mut out = rt.stdout();
-    each_case(&mut rt.stdin(), &mut out)?;
-    out.flush()
-}
-
-// A count of turns, though no turn asks for it: a loop until the input ends has nothing that grows smaller.
-fn each_case<R: Read, W: Write>(input: &mut R, out: &mut W) -> io::Result<()> {
     for _ in 0..MOST_CASES {
-        if !next_case(input, out)? {
+        if !next_case(&mut input, &mut out)? {
             break;
         }
     }
-    Ok(())
+    out.flush()
 }
 
 // Whether there was one. The longest has a job of one byte too many; one that is longer has no bytes.

@@ -1,4 +1,7 @@
 // The line of a case.
+ghost use Rattle.std.specs.Prelude.{◌≤◌};
+
+use crate::cases::Case;
 use std::io::Write;
 use std::{fmt, io};
 use text::Float;
@@ -17,18 +20,22 @@ pub fn called<W: Write, F: FnOnce(&mut u64, &mut u8) -> u32>(
     write!(out, "{entry} {number} {at} {letter}")
 }
 
-// Calls one of the four functions of a number, and judges its answer by totalOrder.
-pub fn judge<W: Write, F: FnOnce(&mut f64) -> u32>(
+// Calls one of the four functions with a number of the case, by its index, and judges the answer by totalOrder: the
+// least and the greatest stand behind that number.
+pub fn judge<W: Write, F: FnOnce(f64, &mut f64) -> u32>(
     out: &mut W,
+    case: &Case,
+    index: usize,
     entry: &str,
     call: F,
-    least: f64,
-    greatest: f64,
 ) -> io::Result<()>
-    requires { F.IsAlwaysCallable call }
+    requires callable { F.IsAlwaysCallable call }
+    requires early { index ≤ 1 }
 {
     let mut answer: f64 = 7.25;
-    let number = call(&mut answer);
+    let number = call(case.single(index), &mut answer);
+    let least = case.single(index + 1);
+    let greatest = case.single(index + 2);
     if float::precedes(answer, least) || float::precedes(greatest, answer) {
         writeln!(out, "{entry} {number} outside {}", Float(answer))
     } else {

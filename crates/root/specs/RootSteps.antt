@@ -1,4 +1,5 @@
--- The words in which the inner functions of `square_root` promise their results. A reader who believes `Root` needs none of them.
+-- The words in which the inner functions of `square_root` promise their results. A reader who believes `Root` needs
+-- none of them.
 use Rattle.std.specs.Prelude.{◌≡◌, ℕ, ◌+◌, ◌-◌, ◌*◌, ◌^◌, ◌<◌, ◌≤◌, false, Float, None, Option, Some, ⊤}
 use Rattle.float.specs.Units.{Is}
 use Rattle.root.specs.Root.{root_units}

@@ -69,7 +69,7 @@ fn apart(x: f64, shift: u64) -> Parts
     requires { (Normal x) × (shift ≤ 64) }
     ensures { (result.m ≡ to_bits binary64 x % 4503599627370496 + 4503599627370496) × (result.f ≡ to_bits binary64 x / 4503599627370496 + shift) }
 {
-    let b = f64::to_bits(x);
+    let b = x.to_bits();
     let f = b / 4503599627370496 + shift;
     let m = b % 4503599627370496 + 4503599627370496;
     Parts { m, f }
@@ -108,18 +108,12 @@ impl Parts {
         let l = u * 134217728;
         let p = b * b + 36028797018963968;
         if p + q < l {
-            if l <= p + 3 * q + 2 {
-                return Some(q + 1);
-            }
-            return None;
+            (l <= p + 3 * q + 2).then(|| q + 1)
+        } else if p < l + q {
+            Some(q)
+        } else {
+            (p + 2 < l + 3 * q).then(|| q - 1)
         }
-        if p < l + q {
-            return Some(q);
-        }
-        if p + 2 < l + 3 * q {
-            return Some(q - 1);
-        }
-        None
     }
 
     // The nearest whole number to the root of m * 2^(52 + odd), where no guess was confirmed.
@@ -138,16 +132,14 @@ impl Parts {
         let e = (self.f + 957) / 2;
         f64::from_bits(e * 4503599627370496 + q)
     }
-}
 
-// The root of x * 2^(shift - 64), rounded, for a normal x above zero: the sure way, out of the quick one's way.
-#[cold]
-fn sure_root(x: f64, shift: u64) -> f64
-    requires { (Normal x) × (shift ≤ 64) }
-    ensures { ScaledRoot x shift result }
-{
-    let p = apart(x, shift);
-    p.root(p.sure_digits())
+    // The root, rounded: the sure way, out of the quick one's way.
+    #[cold]
+    fn sure_root(self) -> f64
+        ensures { PartsRoot self.m self.f result }
+    {
+        self.root(self.sure_digits())
+    }
 }
 
 // The root of x, rounded, for a normal x above zero.
@@ -155,16 +147,16 @@ fn normal_root(x: f64) -> f64
     requires { Normal x }
     ensures { ScaledRoot x 64 result }
 {
-    let b = f64::to_bits(x);
+    let b = x.to_bits();
     let p = apart(x, 64);
     let guess = estimate((b + 4503599627370496) % 9007199254740992 + 4607182418800017408);
     if guess.is_nan() {
-        return sure_root(x, 64);
+        return p.sure_root();
     }
-    let digits = std::num::wrapping_sub_u64(f64::to_bits(guess), 4602678819172646912);
+    let digits = guess.to_bits().wrapping_sub(4602678819172646912);
     match p.confirmed(digits) {
         Some(q) => p.root(q),
-        None => sure_root(x, 64),
+        None => p.sure_root(),
     }
 }
 
@@ -179,7 +171,7 @@ fn small_root(x: f64) -> f64
     if x < 0.0 {
         return f64::NAN;
     }
-    sure_root(x * 18014398509481984.0, 10)
+    apart(x * 18014398509481984.0, 10).sure_root()
 }
 
 // The square root of any f64, correctly rounded.
@@ -195,14 +187,15 @@ pub fn root(x: f64) -> f64
     x
 }
 
-// The same, and quick for what lies within 2^25 of the last place of 1, as a unit vector's square does.
+// The same, and quick for what lies within 2^25 of the last place of 1, as a unit vector's square does. By two
+// comparisons: tried by `matches!`, where the proof finds neither of the two bounds under a name of the source.
 pub fn quick_root(x: f64) -> f64
     ensures { result ≡ S.root x }
 {
     if x.is_nan() {
         return x;
     }
-    let b = f64::to_bits(x);
+    let b = x.to_bits();
     if 4607182418766462976 <= b && b < 4607182418833571840 {
         return f64::from_bits((b + 4607182418800017408) / 2);
     }

@@ -151,20 +151,15 @@ angle_odd s m e x = go s (split (eq (fin s m e) plus_zero))
     go true (inr z) = at_plus m e x (swap true m e ∙ z) ∙ sym (neg_neg (upper_float (fin false m e) x)) ∙ ap neg (sym (at_minus m e x z))
     go false (inr z) = at_minus m e x (swap false m e ∙ z) ∙ ap neg (sym (at_plus m e x z))
 
--- ---- for the code of `arctangent`: b and d are what it found of y and x
-pub is_finite : (b : Bool) (y : Float) → b ≡ finite y → not b ≡ false → finite y ≡ true
-is_finite b y e h = sym e ∙ not_not b h
-
-module _ (y x : Float) {b : Bool} (B : finite y ≡ b) where
-  pub arctangent_y : not b ≡ true → None ≡ arctangent_of y x
-  unfolding arctangent_of
-  arctangent_y h = pick (not (finite y)) _ _ (ap not B ∙ h)
-
-  module _ (k : not b ≡ false) {d : Bool} (D : finite x ≡ d) where
-    pub arctangent_x : not d ≡ true → None ≡ arctangent_of y x
-    unfolding arctangent_of
-    arctangent_x h = pick (not (finite x)) _ _ (ap not D ∙ h) ∙ drop (not (finite y)) _ _ (ap not B ∙ k)
-
+-- ---- for the code of `arctangent`: where both are finite, with what it found of each; and where they are not
 pub arctangent_both : (y x r : Float) {b d : Bool} → finite y ≡ b → not b ≡ false → finite x ≡ d → not d ≡ false → r ≡ angle_float y x → Some r ≡ arctangent_of y x
 unfolding arctangent_of
 arctangent_both y x r B k D l e = ap Some e ∙ drop (not (finite x)) _ _ (ap not D ∙ l) ∙ drop (not (finite y)) _ _ (ap not B ∙ k)
+
+pub arctangent_refused : (y x : Float) → (finite y && finite x) ≡ false → None ≡ arctangent_of y x
+unfolding arctangent_of
+arctangent_refused y x = go (finite y) refl
+  where
+    go : (b : Bool) → finite y ≡ b → (b && finite x) ≡ false → None ≡ cond (not (finite y)) None (cond (not (finite x)) None (Some (angle_float y x)))
+    go true B f = pick (not (finite x)) _ _ (ap not f) ∙ drop (not (finite y)) _ _ (ap not B)
+    go false B f = pick (not (finite y)) _ _ (ap not B)

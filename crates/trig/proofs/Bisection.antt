@@ -1,11 +1,11 @@
 -- The bisection finds an angle of the tangent t, and so does the guess that passes the check: `grid-right`. And the same steps as the code has them. Assumes nothing.
-use Rattle.std.proofs.Common.{◌≡◌, ℕ, zero, suc, ◌+◌, ◌-◌, ◌/◌, ◌<◌, ◌≤◌, Bool, true, false, cond, T, eqb, sym, refl, ap, ◌∙◌, true≢false, arith, lit≤, eqb→eq}
+use Rattle.std.proofs.Common.{◌≡◌, ℕ, zero, suc, ◌+◌, ◌-◌, ◌/◌, ◌<◌, ◌≤◌, min, Bool, true, false, cond, T, eqb, sym, refl, ap, ◌∙◌, true≢false, arith, lit≤, eqb→eq}
 use lib.Ieee.{Float, binary64, add, mul, of_bits, to_unsigned, le, lt}
 use Rattle.trig.specs.Kernel.{plus_zero, sine_kernel, cosine_kernel}
 use Rattle.trig.specs.Reduction.{quarter_pi}
-use Rattle.trig.specs.Arctangent.{start_float, cut, guess, grid_float, last_grid, slack, passes, steep, halve, Halved, many_turns, grid_angle, flat_float}
+use Rattle.trig.specs.Arctangent.{start_float, cut, guess, grid_float, slack, passes, steep, halve, Halved, many_turns, grid_angle, flat_float}
 use Rattle.trig.proofs.Choices.{is_true, pick, drop, chosen}
-use Rattle.trig.proofs.GridAngle.{Tangent, Bracket, Angle, done, right_half, left_half, whole_bracket, passed, guess_small}
+use Rattle.trig.proofs.GridAngle.{Tangent, Bracket, Angle, done, right_half, left_half, whole_bracket, passed, cut_is, guess_small}
 
 -- ---- for `bisect`
 is_one : (a : ℕ) → a ≡ 1 → eqb a 1 ≡ true
@@ -83,21 +83,9 @@ grid_right t g =
 abbrev scaled : Float → Float
 scaled r = add binary64 (mul binary64 r (of_bits binary64 0x4340_0000_0000_0000)) (of_bits binary64 0x3fe0_0000_0000_0000)
 
-guess_is : (t r : Float) (n : ℕ) → r ≡ start_float t → n ≡ cut (scaled r) → n ≡ guess t
+pub guess_is : (t r : Float) → r ≡ start_float t → min (to_unsigned 64 (scaled r)) 7074237752028440 ≡ guess t
 unfolding guess
-guess_is t r n e f = f ∙ ap (λ (x : Float). cut (scaled x)) e
-
-pub guess_in : (t r : Float) (n : ℕ) → r ≡ start_float t → lt plus_zero (scaled r) ≡ true → lt (scaled r) last_grid ≡ true → n ≡ to_unsigned 64 (scaled r) → n ≡ guess t
-unfolding cut
-guess_in t r n e a b f = guess_is t r n e (f ∙ pick (lt (scaled r) last_grid) (to_unsigned 64 (scaled r)) 7074237752028440 b ∙ pick (lt plus_zero (scaled r)) (cond (lt (scaled r) last_grid) (to_unsigned 64 (scaled r)) 7074237752028440) 0 a)
-
-pub guess_top : (t r : Float) → r ≡ start_float t → lt plus_zero (scaled r) ≡ true → lt (scaled r) last_grid ≡ false → 7074237752028440 ≡ guess t
-unfolding cut
-guess_top t r e a b = guess_is t r 7074237752028440 e (drop (lt (scaled r) last_grid) (to_unsigned 64 (scaled r)) 7074237752028440 b ∙ pick (lt plus_zero (scaled r)) (cond (lt (scaled r) last_grid) (to_unsigned 64 (scaled r)) 7074237752028440) 0 a)
-
-pub guess_none : (t r : Float) → r ≡ start_float t → lt plus_zero (scaled r) ≡ false → 0 ≡ guess t
-unfolding cut
-guess_none t r e a = guess_is t r 0 e (drop (lt plus_zero (scaled r)) (cond (lt (scaled r) last_grid) (to_unsigned 64 (scaled r)) 7074237752028440) 0 a)
+guess_is t r e = sym (cut_is (scaled r)) ∙ ap (λ (x : Float). cut (scaled x)) e
 
 -- ---- for `passes`, `steep`, `grid_angle` and `flat`
 pub passes_is : (t r s q : Float) → s ≡ sine_kernel r → q ≡ cosine_kernel r → cond (le s (add binary64 (mul binary64 t q) slack)) (le (mul binary64 t q) (add binary64 s slack)) false ≡ passes t r

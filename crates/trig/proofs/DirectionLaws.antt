@@ -1,8 +1,8 @@
 -- The angle that each eighth of the plane gives is in the direction of (x, y): y above zero, then below it, then zero. And what the code's tests say. Assumes nothing.
-use Rattle.std.proofs.Common.{◌≡◌, ℕ, zero, suc, ◌+◌, ◌*◌, ◌/◌, ◌^◌, ◌<◌, ◌≤◌, Bool, true, false, not, ◌&&◌, ◌||◌, T, eqb, ltb, ◌⊎◌, ℤ, pos, negsuc, sym, refl, ap, ◌∙◌, subst, inl, inr, true≢false, le_of_eq, mul-le-mul_right, eq-zero-or-pos, le_antisymm, mul-pos, mul-div_cancel, arith, lit<, lit≤, ltb→lt, lt→ltb}
+use Rattle.std.proofs.Common.{◌≡◌, ℕ, zero, suc, ◌+◌, ◌*◌, ◌/◌, ◌^◌, ◌<◌, ◌≤◌, Bool, true, false, cond, not, ◌&&◌, ◌||◌, T, eqb, ltb, ◌⊎◌, ℤ, pos, negsuc, sym, refl, ap, ◌∙◌, subst, inl, inr, true≢false, le_of_eq, mul-le-mul_right, eq-zero-or-pos, le_antisymm, mul-pos, mul-div_cancel, arith, lit<, lit≤, ltb→lt, lt→ltb}
 use lib.Dec.{eqb_refl}
 use lib.Ieee.{Float, nan, inf, fin, binary64, up, down, neg, div, of_bits, le, lt, eq, fits, is_nan}
-use Rattle.std.specs.Float.{is_sign_negative}
+use Rattle.std.specs.Float.{is_sign_negative, float_with_sign}
 use lib.Ieee.Fits.{down_pos, up_pos}
 use lib.Ieee.Positive.{den as bot}
 use Rattle.float.proofs.Rounding.{Within}
@@ -467,6 +467,15 @@ unfolding is_sign_negative
 sign_is nan = refl
 sign_is (inf s) = refl
 sign_is (fin s m e) = refl
+
+-- pi with the sign of x
+pub pi_signed : (x : Float) → float_with_sign (is_sign_negative x) pi_float ≡ cond (negative x) (neg pi_float) pi_float
+unfolding is_sign_negative float_with_sign neg of_bits
+pi_signed nan = refl
+pi_signed (inf true) = refl
+pi_signed (inf false) = refl
+pi_signed (fin true m e) = refl
+pi_signed (fin false m e) = refl
 
 pub up_neg : (x : Float) → finite x ≡ true → lt x plus_zero ≡ true → Up (neg x)
 unfolding neg lt of_bits

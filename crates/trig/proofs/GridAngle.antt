@@ -1,5 +1,5 @@
 -- An angle i * 2 ^ -53 whose tangent is t, found by bisection, or by a check of the residual in floats. Assumes nothing.
-use Rattle.std.proofs.Common.{◌≡◌, ℕ, ◌+◌, ◌-◌, ◌*◌, ◌/◌, ◌^◌, ◌<◌, ◌≤◌, min, Bool, true, false, cond, not, T, pos, negsuc, sym, refl, ap, subst, true≢false, le_trans, le_of_eq, lt_of_lt_of_le, lt_of_le_of_lt, le_of_lt, mul-le-mul_right, div-lt_iff_lt-mul, mul-le-mul, mul-le-mul_left, mul-lt-mul_of_pos_right, mul-pos, le_of_mul-le-mul_right, arith, lit<, lit≤, ltb→lt, lt→ltb, pow_pos}
+use Rattle.std.proofs.Common.{◌≡◌, ℕ, ◌+◌, ◌-◌, ◌*◌, ◌/◌, ◌^◌, ◌<◌, ◌≤◌, min, Bool, true, false, cond, not, T, pos, negsuc, sym, refl, ap, subst, true≢false, le_trans, le_of_eq, lt_of_lt_of_le, lt_of_le_of_lt, le_of_lt, mul-le-mul_right, div-lt_iff_lt-mul, le-div_iff_mul-le, mul-le-mul, mul-le-mul_left, mul-lt-mul_of_pos_right, mul-pos, le_of_mul-le-mul_right, arith, lit<, lit≤, ltb→lt, nltb→le, ltb, pow_pos}
 use lib.Ieee.{Float, nan, inf, fin, binary64, up, down, add, mul, of_int, of_bits, to_unsigned, le, lt}
 use lib.Ieee.Fits.{down_pos}
 use Rattle.float.proofs.Rounding.{Within}
@@ -7,13 +7,13 @@ use Rattle.float.specs.Units.{U, Is}
 use Rattle.float.proofs.Rounding.{W, U-is, U_pos, W-pos, Rounded, mul_rounded, add_rounded}
 use Rattle.trig.proofs.HornerForm.{num, den, num_le, den_pos}
 use Rattle.trig.proofs.SumError.{int_is, t_le}
-use Rattle.trig.specs.Kernel.{sine_kernel, cosine_kernel, plus_zero}
+use Rattle.trig.specs.Kernel.{sine_kernel, cosine_kernel}
 use Rattle.trig.proofs.KernelError.{sin_near, cos_near}
 use Rattle.trig.proofs.Slope.{cos_step, sin_step}
 use Rattle.trig.proofs.ResidualBound.{half_up, half_down, residual_within}
 use Rattle.trig.proofs.WaveError.{le_cross, not_le_cross}
 use Rattle.trig.proofs.Choices.{is_true, not_true, both_true}
-use Rattle.trig.specs.Arctangent.{grid_float, slack, last_grid, passes, steep, start_float, cut, guess}
+use Rattle.trig.specs.Arctangent.{grid_float, slack, passes, steep, start_float, cut, guess}
 
 -- 2 ^ 53
 unfoldable pub vv : ℕ
@@ -339,37 +339,53 @@ passes_both t r h =
 pub passed : (t : Float) (i : ℕ) → Tangent t → i ≤ 7074237752028440 → passes t (grid_float i) ≡ true → Angle t i
 passed t i g small h = let b = passes_both t (grid_float i) h in checked t g i small b.0 b.1
 
--- ---- a guess: any float from 0 up to 7074237752028440, cut to a whole number
-pub guessed : (f : Float) → lt plus_zero f ≡ true → lt f last_grid ≡ true → (T (lt (fin true 1 (pos 0)) f) × T (lt f (fin false 1 (pos 64)))) × (to_unsigned 64 f ≤ 7074237752028440)
-unfolding of_bits lt to_unsigned
-guessed nan a b = absurd (true≢false (sym a))
-guessed (inf true) a b = absurd (true≢false (sym a))
-guessed (inf false) a b = absurd (true≢false (sym b))
-guessed (fin true n d) a b = absurd (true≢false (sym a))
-guessed (fin false n d) a b =
-    let l : n * up d * 1 < 884279719003555 * 2 ^ 3 * down d = ltb→lt (n * up d * 1) (884279719003555 * 2 ^ 3 * down d) (is_true _ b) in
-    ((lt→ltb 0 (1 * 1 * down d + n * up d * 1) (some (down d) (n * up d * 1) (down_pos d)), lt→ltb (n * up d * 1) (1 * 2 ^ 64 * down d) (wide (n * up d) (down d) l)), cut (n * up d / down d) ((div-lt_iff_lt-mul (down_pos d)).1 (same (n * up d) (down d) l)))
+-- ---- a guess: any float, cut to a whole number from 0 up to 7074237752028440
+-- `cut` is the library's cast and the smaller of two
+pub cut_is : (f : Float) → cut f ≡ min (to_unsigned 64 f) 7074237752028440
+unfolding cut to_unsigned lt of_bits
+cut_is nan = refl
+cut_is (inf true) = refl
+cut_is (inf false) = refl
+cut_is (fin true n d) = refl
+cut_is (fin false n d) =
+    go (n * up d / down d) (ltb (0 * 1 * down d) (n * up d * 1)) (ltb (n * up d * 1) (884279719003555 * 2 ^ 3 * down d))
+    (λ t. zeros (n * up d) (down d) (down_pos d) (nltb→le (0 * 1 * down d) (n * up d * 1) t))
+    (λ t. (div-lt_iff_lt-mul (down_pos d)).1 (below (n * up d) (down d) (ltb→lt (n * up d * 1) (884279719003555 * 2 ^ 3 * down d) t)))
+    (λ t. (le-div_iff_mul-le (down_pos d)).1 (above (n * up d) (down d) (nltb→le (n * up d * 1) (884279719003555 * 2 ^ 3 * down d) t)))
   where
-    some : (a b : ℕ) → 0 < a → 0 < 1 * 1 * a + b
-    some a b h = omega arith
+    none : (a d : ℕ) → a * 1 ≤ 0 * 1 * d → 0 < d → a < 1 * d
+    none a d h k = omega arith
 
-    wide : (a d : ℕ) → a * 1 < 884279719003555 * 2 ^ 3 * d → a * 1 < 1 * 2 ^ 64 * d
-    wide a d h = omega arith
+    zeros : (a d : ℕ) → 0 < d → a * 1 ≤ 0 * 1 * d → a / d < 1
+    zeros a d k h = (div-lt_iff_lt-mul k).1 (none a d h k)
 
-    same : (a d : ℕ) → a * 1 < 884279719003555 * 2 ^ 3 * d → a < 7074237752028440 * d
-    same a d h = omega arith
+    below : (a d : ℕ) → a * 1 < 884279719003555 * 2 ^ 3 * d → a < 7074237752028440 * d
+    below a d h = omega arith
 
-    cut : (q : ℕ) → q < 7074237752028440 → min q (2 ^ 64 - 1) ≤ 7074237752028440
-    cut q h = omega arith
+    above : (a d : ℕ) → 884279719003555 * 2 ^ 3 * d ≤ a * 1 → 7074237752028440 * d ≤ a
+    above a d h = omega arith
+
+    nought : (q : ℕ) → q < 1 → 0 ≡ min (min q (2 ^ 64 - 1)) 7074237752028440
+    nought q h = omega arith
+
+    inside : (q : ℕ) → q < 7074237752028440 → min q (2 ^ 64 - 1) ≡ min (min q (2 ^ 64 - 1)) 7074237752028440
+    inside q h = omega arith
+
+    outside : (q : ℕ) → 7074237752028440 ≤ q → 7074237752028440 ≡ min (min q (2 ^ 64 - 1)) 7074237752028440
+    outside q h = omega arith
+
+    go : (q : ℕ) (a b : Bool) → (T (not a) → q < 1) → (T b → q < 7074237752028440) → (T (not b) → 7074237752028440 ≤ q)
+        → cond a (cond b (min q (2 ^ 64 - 1)) 7074237752028440) 0 ≡ min (min q (2 ^ 64 - 1)) 7074237752028440
+    go q true true z i o = inside q (i tt)
+    go q true false z i o = outside q (o tt)
+    go q false b z i o = nought q (z tt)
 
 abbrev scaled : Float → Float
 scaled t = add binary64 (mul binary64 (start_float t) (of_bits binary64 0x4340_0000_0000_0000)) (of_bits binary64 0x3fe0_0000_0000_0000)
 
 pub guess_small : (t : Float) → guess t ≤ 7074237752028440
-unfolding guess cut
-guess_small t = go (scaled t) (lt plus_zero (scaled t)) (lt (scaled t) last_grid) (λ a b. (guessed (scaled t) a b).1)
+unfolding guess
+guess_small t = subst (λ (n : ℕ). n ≤ 7074237752028440) (sym (cut_is (scaled t))) (least (to_unsigned 64 (scaled t)))
   where
-    go : (f : Float) (a b : Bool) → (a ≡ true → b ≡ true → to_unsigned 64 f ≤ 7074237752028440) → cond a (cond b (to_unsigned 64 f) 7074237752028440) 0 ≤ 7074237752028440
-    go f true true h = h refl refl
-    go f true false h = lit≤ tt
-    go f false b h = lit≤ tt
+    least : (n : ℕ) → min n 7074237752028440 ≤ 7074237752028440
+    least n = omega arith

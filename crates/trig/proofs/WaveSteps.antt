@@ -1,7 +1,8 @@
 -- The steps of `sine` and `cosine` in the code's order, and their symmetry: the sine is odd and the cosine is even, in every bit. Assumes nothing.
 use Rattle.std.proofs.Common.{◌≡◌, ℕ, ◌+◌, ◌-◌, ◌*◌, ◌%◌, ◌<◌, ◌≤◌, Bool, true, false, cond, not, ◌&&◌, ◌||◌, T, eqb, ltb, leb, ◌⊎◌, ℤ, sym, refl, ap, ◌∙◌, subst, inl, inr, true≢false, not-le_of_lt, arith, ltb→lt, leb→le, nltb→le}
 use lib.Dec.{nleb→lt}
-use lib.Ieee.{Float, fin, up, down, neg, of_bits, le, lt, eq}
+use lib.Ieee.{Float, nan, inf, fin, up, down, neg, of_bits, le, lt, eq}
+use Rattle.float.specs.Helpers.{size_of}
 use Rattle.float.proofs.Order.{neg_neg}
 use Rattle.trig.specs.Kernel.{plus_zero, one, sine_kernel, cosine_kernel}
 use Rattle.trig.specs.Reduction.{turns, base, part, rest, rest_float, quarter_pi, count, turn_k, turn_below, turn_rest}
@@ -61,6 +62,15 @@ lt_neg m e h = go (ltb 0 (m * up e * 1 + 0 * 1 * down e)) (nltb→le 0 (m * up e
     go : (t : Bool) → (T (not t) → m * up e * 1 + 0 * 1 * down e ≤ 0) → t ≡ true
     go true k = refl
     go false k = absurd (clash (m * up e * 1) (0 * 1 * down e) (zeros (m * up e * 1) (0 * 1 * down e) (k tt)).0 (zeros (m * up e * 1) (0 * 1 * down e) (k tt)).1 h)
+
+-- the size is the one of x and -x that is not below zero
+pub size_chosen : (x : Float) → eq x plus_zero ≡ false → size_of x ≡ cond (lt x plus_zero) (neg x) x
+unfolding size_of neg lt of_bits
+size_chosen nan z = refl
+size_chosen (inf true) z = refl
+size_chosen (inf false) z = refl
+size_chosen (fin true m e) z = pick (lt (fin true m e) plus_zero) (fin false m e) (fin true m e) (lt_neg m e z)
+size_chosen (fin false m e) z = drop (lt (fin false m e) plus_zero) (fin true m e) (fin false m e) (lt_pos m e)
 
 -- ---- for `turned`
 abbrev IsTurn : Float → ℕ → Bool → Float → Type 0
@@ -158,47 +168,6 @@ placed_odd k b s t c h = elim (quarters k) [
     | inr v ↦ elim v [
       | inl e ↦ absurd (h (even' k e))
       | inr e ↦ subst (λ (q : ℕ). placed q b s c ≡ placed q b t c) (sym e) refl
-    ]
-  ]
-]
-  where
-    even : (k : ℕ) → k % 4 ≡ 0 → k % 2 ≡ 0
-    even k e = omega arith
-
-    even' : (k : ℕ) → k % 4 ≡ 2 → k % 2 ≡ 0
-    even' k e = omega arith
-
--- the sign of each quarter, as `place` has it
-pub sign_even : (k : ℕ) (b : Bool) (s c y : Float) → k % 2 ≡ 0 → y ≡ cond b (neg s) s → cond (eqb (k % 4) 2) (neg y) y ≡ placed (k % 4) b s c
-sign_even k b s c y h e = elim (quarters k) [
-  | inl q ↦ subst (λ (q : ℕ). cond (eqb q 2) (neg y) y ≡ placed q b s c) (sym q) e
-  | inr u ↦ elim u [
-    | inl q ↦ absurd (clash k h q)
-    | inr v ↦ elim v [
-      | inl q ↦ subst (λ (q : ℕ). cond (eqb q 2) (neg y) y ≡ placed q b s c) (sym q) (ap neg e ∙ go b)
-      | inr q ↦ absurd (clash' k h q)
-    ]
-  ]
-]
-  where
-    clash : (k : ℕ) → k % 2 ≡ 0 → k % 4 ≡ 1 → ⊥
-    clash k h e = omega arith
-
-    clash' : (k : ℕ) → k % 2 ≡ 0 → k % 4 ≡ 3 → ⊥
-    clash' k h e = omega arith
-
-    go : (b : Bool) → neg (cond b (neg s) s) ≡ cond b s (neg s)
-    go true = neg_neg s
-    go false = refl
-
-pub sign_odd : (k : ℕ) (b : Bool) (s c : Float) → ((k % 2 ≡ 0) → ⊥) → cond (eqb (k % 4) 3) (neg c) c ≡ placed (k % 4) b s c
-sign_odd k b s c h = elim (quarters k) [
-  | inl q ↦ absurd (h (even k q))
-  | inr u ↦ elim u [
-    | inl q ↦ subst (λ (q : ℕ). cond (eqb q 3) (neg c) c ≡ placed q b s c) (sym q) refl
-    | inr v ↦ elim v [
-      | inl q ↦ absurd (h (even' k q))
-      | inr q ↦ subst (λ (q : ℕ). cond (eqb q 3) (neg c) c ≡ placed q b s c) (sym q) refl
     ]
   ]
 ]

@@ -1,4 +1,5 @@
--- The sine and the cosine of document 01: x = k * Pi / 2 + r for the whole number k nearest to x over half of Pi, and S or C of r, placed by k modulo 4.
+-- The sine and the cosine of document 01: x = k * Pi / 2 + r for the whole number k nearest to x over half of Pi, and S
+-- or C of r, placed by k modulo 4.
 -- Over any fraction x = a / d, or -a / d: no floats but in the last two definitions. Definitions only.
 use Rattle.std.specs.Prelude.{ℕ, zero, suc, ◌+◌, ◌-◌, ◌*◌, ◌/◌, ◌%◌, ◌^◌, Bool, true, false, cond, not, nat_lt, Float}
 use Rattle.std.specs.Float.{nan, inf, fin}

@@ -1,4 +1,5 @@
--- The arccosine as document 01 has it: the arctangent of the root of (1 - c) (1 + c), and c, in floats; and what it promises. Definitions only.
+-- The arccosine as document 01 has it: the arctangent of the root of (1 - c) (1 + c), and c, in floats; and what it
+-- promises. Definitions only.
 use Rattle.std.specs.Prelude.{◌≡◌, Bool, true, false, cond, T, Float, None, Option, Some}
 use Rattle.std.specs.Float.{binary64}
 use Rattle.std.specs.Float.Ieee.{add, sub, mul, neg, le}

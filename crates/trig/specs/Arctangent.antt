@@ -1,5 +1,7 @@
--- The arctangent as the code makes it: a polynomial's guess, a check of its residual in floats, and a bisection where the check fails. Definitions only.
--- Angles from 0 to Pi / 4 are whole numbers i of 2 ^ -53, up to 7074237752028440. The other angles are reached from there in whole numbers of 2 ^ -51.
+-- The arctangent as the code makes it: a polynomial's guess, a check of its residual in floats, and a bisection where
+-- the check fails. Definitions only.
+-- Angles from 0 to Pi / 4 are whole numbers i of 2 ^ -53, up to 7074237752028440. The other angles are reached from
+-- there in whole numbers of 2 ^ -51.
 use Rattle.std.specs.Prelude.{◌≡◌, ℕ, zero, suc, ◌+◌, ◌-◌, ◌/◌, ◌≤◌, Bool, true, false, cond, not, ◌&&◌, pos, negsuc, ◌==◌, from_bits, nat_lt, Float, None, Option, Some}
 use Rattle.std.specs.Float.{fin, binary64}
 use Rattle.std.specs.Float.Ieee.{add, sub, mul, div, neg, of_int, to_unsigned, le, lt, eq}
@@ -14,7 +16,8 @@ use Rattle.trig.specs.Direction.{Direction}
 abbrev four : Float → Float → Float → Float → Float → Float → Float
 four a b c d w v = add binary64 (sub binary64 a (mul binary64 b w)) (mul binary64 v (sub binary64 c (mul binary64 d w)))
 
--- the arctangent of u, up to 0.4143 in size: u times a polynomial of the eleventh degree in w = u u, near 1 - w / 3 + w w / 5 - ..
+-- the arctangent of u, up to 0.4143 in size: u times a polynomial of the eleventh degree in w = u u, near
+-- 1 - w / 3 + w w / 5 - ..
 abbrev polynomial : Float → Float → Float → Float
 polynomial w v q =
     add binary64 (four one (from_bits binary64 0x3fd5_5555_5555_5555) (from_bits binary64 0x3fc9_9999_9999_932e) (from_bits binary64 0x3fc2_4924_9243_4992) w v)
@@ -83,7 +86,8 @@ unfoldable pub grid_angle : Float → ℕ
 unfolding guess passes halve
 grid_angle t = cond (passes t (grid_float (guess t))) (guess t) (halve many_turns t 0 7074237752028440)
 
--- ---- the four quarters of the half plane above the axis, and their clamps: the angle stays on its side of Pi / 4 and 3 Pi / 4
+-- ---- the four quarters of the half plane above the axis, and their clamps: the angle stays on its side of Pi / 4 and
+-- 3 Pi / 4
 -- Pi / 2 less i, Pi / 2 and i, Pi less i, in units of 2 ^ -53
 unfoldable pub rise_float : ℕ → Float
 unfolding quarter_float

@@ -1,6 +1,6 @@
--- The sine and the cosine of an angle in degrees, for turning. The angle is brought below 360 by the exact remainder, and
--- the definition is document 01's at what is left times Pi over 180 (`sine_at`, `cosine_at`). `DegreesRight` is what
--- `of_degrees` promises of its pair; `DegreeSteps` names that pair, step by step. Definitions only.
+-- The sine and the cosine of an angle in degrees, for turning. The angle is brought below 360 by the exact remainder,
+-- and the definition is document 01's at what is left times Pi over 180 (`sine_at`, `cosine_at`). `DegreesRight` is
+-- what `of_degrees` promises of its pair; `DegreeSteps` names that pair, step by step. Definitions only.
 use Rattle.std.specs.Prelude.{◌≡◌, ℕ, zero, suc, ◌*◌, ◌%◌, Bool, true, false, cond, from_bits, Float, None, Option, Some}
 use Rattle.std.specs.Float.{nan, inf, fin, binary64}
 use Rattle.std.specs.Float.Ieee.{up, down, add, neg, le}

@@ -37,8 +37,8 @@ pub record Toward (y x r : Float) : Type 0 where
   pub small : Small (residual y x r) (larger y x) (bot y * bot x)
   pub ahead : Positive (along y x r)
 
--- r is the angle of (x, y): between -pi and pi, with the sign bit of y, in the direction of (x, y) where that is not the origin,
--- and for a zero y one of 0, -0, pi and -pi
+-- r is the angle of (x, y): between -pi and pi, with the sign bit of y, in the direction of (x, y) where that is not
+-- the origin, and for a zero y one of 0, -0, pi and -pi
 pub record Direction (y x r : Float) : Type 0 where
   pub least : T (le (neg pi) r)
   pub greatest : T (le r pi)

@@ -1,5 +1,6 @@
 -- Fractions of whole numbers, below zero too, and what the contracts say with them. Definitions only.
--- A fraction is (plus - minus) / over with natural numbers, so that no subtraction is lost and every bound is an inequality of products.
+-- A fraction is (plus - minus) / over with natural numbers, so that no subtraction is lost and every bound is an
+-- inequality of products.
 use Rattle.std.specs.Prelude.{ℕ, ◌+◌, ◌*◌, ◌^◌, ◌<◌, ◌≤◌, true, false, cond, Float}
 use Rattle.std.specs.Float.{nan, inf, fin}
 use Rattle.std.specs.Float.Ieee.{up, down}

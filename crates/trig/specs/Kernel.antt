@@ -1,4 +1,5 @@
--- The sine and the cosine of a float r of at most 0.79, as the code computes them: the Taylor sums in Horner's form, in floats. Definitions only.
+-- The sine and the cosine of a float r of at most 0.79, as the code computes them: the Taylor sums in Horner's form, in
+-- floats. Definitions only.
 use Rattle.std.specs.Prelude.{ℕ, zero, suc, ◌+◌, ◌*◌, ◌≤◌, false, cond, from_bits, Float}
 use Rattle.std.specs.Float.{nan, inf, fin, binary64}
 use Rattle.std.specs.Float.Ieee.{up, down, sub, mul, round}
@@ -26,7 +27,8 @@ unfolding step
 sum z taken p zero = taken
 sum z taken p (suc n) = sum z (step z (p + 2 * n) taken) p n
 
--- r (1 - r² / (2 * 3) (1 - r² / (4 * 5) ( .. ))), and 1 - r² / (1 * 2) (1 - r² / (3 * 4) ( .. )), with 12 terms after the first
+-- r (1 - r² / (2 * 3) (1 - r² / (4 * 5) ( .. ))), and 1 - r² / (1 * 2) (1 - r² / (3 * 4) ( .. )), with 12 terms after
+-- the first
 unfoldable pub sine_kernel : Float → Float
 unfolding sum
 sine_kernel r = mul binary64 r (sum (mul binary64 r r) one 1 12)

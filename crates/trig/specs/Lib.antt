@@ -1,7 +1,7 @@
 -- What the contracts say, in reading order: `Fraction`, `Taylor` and `Angle` are document 01's S and C; `Kernel` and
 -- `Reduction` are the steps of the code in floats, and `Waves` its sine and cosine with their promises; `Degrees` has
--- those of an angle in degrees, by which a turn is made, and `DegreeSteps` its steps; `Direction` is what an arctangent promises, `Arctangent` its
--- steps, and `Arccosine`.
+-- those of an angle in degrees, by which a turn is made, and `DegreeSteps` its steps; `Direction` is what an arctangent
+-- promises, `Arctangent` its steps, and `Arccosine`.
 pub mod Fraction
 pub mod Taylor
 pub mod Angle

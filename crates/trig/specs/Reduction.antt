@@ -1,5 +1,7 @@
--- The reduction of a float by the nearest multiple of Pi / 2, as the code makes it: in whole numbers, exactly, and one rounding at the end. Definitions only.
--- 14148475504056880 is the whole part of Pi / 2 * 2 ^ 53, and 620969700002688 the next 50 binary digits; 7074237752028440 and 310484850001344 are those of Pi / 4.
+-- The reduction of a float by the nearest multiple of Pi / 2, as the code makes it: in whole numbers, exactly, and one
+-- rounding at the end. Definitions only.
+-- 14148475504056880 is the whole part of Pi / 2 * 2 ^ 53, and 620969700002688 the next 50 binary digits;
+-- 7074237752028440 and 310484850001344 are those of Pi / 4.
 use Rattle.std.specs.Prelude.{ℕ, ◌+◌, ◌-◌, ◌*◌, ◌/◌, ◌%◌, ◌^◌, ◌≤◌, Bool, true, false, cond, pos, negsuc, from_bits, nat_le, nat_lt, Float}
 use Rattle.std.specs.Float.{nan, inf, fin, binary64}
 use Rattle.std.specs.Float.Ieee.{up, down, mul, of_int, to_unsigned, le}

@@ -14,8 +14,8 @@ unfoldable pub term : ℕ → ℕ → ℕ → ℕ → ℕ
 unfolding rising
 term u v p n = u ^ p * v ^ (2 * n) * rising p (2 * n)
 
--- Of the n + 1 terms with the powers p, p + 2, .. , p + 2 n and the signs +, -, +, ..: the sum of those with + (true), and of those with - (false),
--- each times the same denominator
+-- Of the n + 1 terms with the powers p, p + 2, .. , p + 2 n and the signs +, -, +, ..: the sum of those with + (true),
+-- and of those with - (false), each times the same denominator
 unfoldable pub terms : ℕ → ℕ → Bool → ℕ → ℕ → ℕ
 unfolding term
 terms u v true zero p = term u v p zero

@@ -58,7 +58,8 @@ paired None a = None
 abbrev pub Sized : Float → Type 0
 Sized y = 2 ^ 50 * top y ≤ (2 ^ 50 + 1) * bot y
 
--- y is within 2 ^ -50 of the sum, finite, and at most 1 + 2 ^ -50 in size; the sine is odd and the cosine even, in every bit
+-- y is within 2 ^ -50 of the sum, finite, and at most 1 + 2 ^ -50 in size; the sine is odd and the cosine even, in
+-- every bit
 pub record SineValue (x y : Float) : Type 0 where
   pub near : Near 50 y (sine x)
   pub is_finite : finite y ≡ true

@@ -3,9 +3,11 @@ ghost use Rattle.std.specs.Prelude.{◌≡◌, ℕ, ◌^◌, ◌<◌, ◌≤◌,
 ghost use Rattle.std.specs.Float.Ieee.Scale.{finite as is_finite};
 ghost use Rattle.trig.specs.Arctangent as Arctangent;
 
-use crate::tangent::{grid, grid_angle, passes, start};
+use crate::tangent::{GridAngle, grid_angle, passes, start};
+use std::f64::consts::{FRAC_PI_2, FRAC_PI_4, PI};
 
-// a / b, at most 1.
+// a / b, at most 1. Tried by `min`: its contract leaves open which of two equal numbers comes out, and no law says that
+// a double equal to 1.0 is 1.0.
 fn ratio(a: f64, b: f64) -> f64
     ensures { result ≡ Arctangent.ratio_float a b }
 {
@@ -24,36 +26,32 @@ fn quarter(z: u64) -> f64
 // `lean` differs from the two beside it in sign and side, `rise` and `back` in their constants. One function of both
 // constants would ask for a bound of each, and the two would still be functions: each has its definition.
 
-// pi / 2 less i * 2^-53: past pi / 4.
-fn rise(i: u64) -> f64
-    requires { i ≤ 7074237752028440 }
-    ensures { result ≡ Arctangent.rise_float i }
+// pi / 2 less the angle: past pi / 4.
+fn rise(a: GridAngle) -> f64
+    ensures { result ≡ Arctangent.rise_float a.i }
 {
-    quarter(((14148475504056880 - i) / 4).max(1768559438007111))
+    quarter(((14148475504056880 - a.i) / 4).max(1768559438007111))
 }
 
-// pi / 2 and i * 2^-53: not past 3 pi / 4.
-fn lean(i: u64) -> f64
-    requires { i ≤ 7074237752028440 }
-    ensures { result ≡ Arctangent.lean_float i }
+// pi / 2 and the angle: not past 3 pi / 4.
+fn lean(a: GridAngle) -> f64
+    ensures { result ≡ Arctangent.lean_float a.i }
 {
-    quarter(((14148475504056880 + i) / 4 + 1).min(5305678314021330))
+    quarter(((14148475504056880 + a.i) / 4 + 1).min(5305678314021330))
 }
 
-// pi less i * 2^-53: past 3 pi / 4.
-fn back(i: u64) -> f64
-    requires { i ≤ 7074237752028440 }
-    ensures { result ≡ Arctangent.back_float i }
+// pi less the angle: past 3 pi / 4.
+fn back(a: GridAngle) -> f64
+    ensures { result ≡ Arctangent.back_float a.i }
 {
-    quarter(((28296951008113761 - i) / 4).max(5305678314021331))
+    quarter(((28296951008113761 - a.i) / 4).max(5305678314021331))
 }
 
 // The angle of the tangent t, on the grid.
 fn coarse(t: f64) -> f64
     ensures { result ≡ Arctangent.grid_float (Arctangent.grid_angle t) }
 {
-    let i = grid_angle(t);
-    grid(i)
+    grid_angle(t).radians()
 }
 
 // The angle of the tangent t: the guess itself where it passes, so that a small angle keeps its digits.
@@ -61,7 +59,7 @@ fn flat(t: f64) -> f64
     ensures { result ≡ Arctangent.flat_float t }
 {
     let r = start(t);
-    if 0.0 < r && r <= 0.7853981633974483 && passes(t, r) {
+    if 0.0 < r && r <= FRAC_PI_4 && passes(t, r) {
         r
     } else {
         coarse(t)
@@ -77,8 +75,7 @@ fn right(y: f64, x: f64) -> f64
         flat(t)
     } else {
         let t = ratio(x, y);
-        let i = grid_angle(t);
-        rise(i)
+        rise(grid_angle(t))
     }
 }
 
@@ -88,12 +85,10 @@ fn left(y: f64, b: f64) -> f64
 {
     if b <= y {
         let t = ratio(b, y);
-        let i = grid_angle(t);
-        lean(i)
+        lean(grid_angle(t))
     } else {
         let t = ratio(y, b);
-        let i = grid_angle(t);
-        back(i)
+        back(grid_angle(t))
     }
 }
 
@@ -102,7 +97,7 @@ fn upper(y: f64, x: f64) -> f64
     ensures { result ≡ Arctangent.upper_float y x }
 {
     if x == 0.0 {
-        1.5707963267948966
+        FRAC_PI_2
     } else if x < 0.0 {
         left(y, -x)
     } else {
@@ -112,16 +107,12 @@ fn upper(y: f64, x: f64) -> f64
 
 // The angle of (x, y), for a zero y.
 fn level(y: f64, x: f64) -> f64
-    requires fact_1 { is_finite y ≡ true }
-    requires fact_2 { is_finite x ≡ true }
+    requires y_finite { is_finite y ≡ true }
+    requires x_finite { is_finite x ≡ true }
     ensures { result ≡ Arctangent.level_float y x }
 {
     if x.is_sign_negative() {
-        if y.is_sign_negative() {
-            -3.141592653589793
-        } else {
-            3.141592653589793
-        }
+        PI.copysign(y)
     } else {
         y
     }
@@ -129,8 +120,8 @@ fn level(y: f64, x: f64) -> f64
 
 // The angle of (x, y).
 pub fn angle(y: f64, x: f64) -> f64
-    requires fact_1 { is_finite y ≡ true }
-    requires fact_2 { is_finite x ≡ true }
+    requires y_finite { is_finite y ≡ true }
+    requires x_finite { is_finite x ≡ true }
     ensures { result ≡ Arctangent.angle_float y x }
 {
     if y == 0.0 {

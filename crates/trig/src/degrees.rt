@@ -12,7 +12,7 @@ const QUARTER_TURN: u64 = 12666373951979520;
 
 const EIGHTH_TURN: u64 = 6333186975989760;
 
-// Whether |x| <= 45,000, and x so has a turn.
+// Whether |x| <= 45,000, and x so has a turn. By two comparisons: as `served`.
 #[tactic(auto, unfolding(crate::specs::Degrees::turnable))]
 pub fn turnable(x: f64) -> bool
     ensures { result ≡ Degrees.turnable x }
@@ -76,9 +76,8 @@ pub fn pair_in_degrees(x: f64) -> Pair
     }
     let a = signed(x, x < 0.0);
     let p = reduced(a).waves();
-    let sine = signed(p.sine, x < 0.0);
     Pair {
-        sine: sine + 0.0,
+        sine: signed(p.sine, x < 0.0) + 0.0,
         cosine: p.cosine + 0.0,
     }
 }

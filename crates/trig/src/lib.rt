@@ -65,17 +65,10 @@ pub fn arctangent(y: f64, x: f64) -> Option<f64>
     ensures name { result ≡ Arctangent.arctangent_of y x }
     ensures right { Arctangent.ArctangentAnswer y x result }
 {
-    if !float::finite(y) {
-        return None;
-    }
-    if !float::finite(x) {
-        return None;
-    }
-    let r = angle(y, x);
-    Some(r)
+    (float::finite(y) && float::finite(x)).then(|| angle(y, x))
 }
 
-// Whether c is from -1 to 1, and so has an arccosine. Not one function with `served` and `turnable` over the bound:
+// Whether c is from -1 to 1, and so has an arccosine; by two comparisons, as `waves::served`. Not one function with `served` and `turnable` over the bound:
 // each would still be a function with its name and definition, and a call in place of the two comparisons.
 #[tactic(auto, unfolding(crate::specs::Arccosine::cosine_range))]
 pub fn cosine_range(c: f64) -> bool
@@ -84,7 +77,8 @@ pub fn cosine_range(c: f64) -> bool
     c <= 1.0 && -1.0 <= c
 }
 
-// The angle from 0 to pi whose cosine is c.
+// The angle from 0 to pi whose cosine is c. No `then`: what it lets through is an Option already, so that `flatten`
+// would take off again what `then` puts on.
 pub fn arccosine(c: f64) -> Option<f64>
     ensures name { result ≡ Arccosine.arccosine_of c }
     ensures right { Arccosine.ArccosineAnswer c result }

@@ -3,6 +3,8 @@
 ghost use Rattle.std.specs.Prelude.{◌≡◌, ℕ, ◌*◌, ◌^◌, ◌≤◌};
 ghost use Rattle.trig.specs.Reduction as Reduction;
 
+use std::f64::consts::FRAC_PI_4;
+
 // The whole number nearest to x / (Pi / 2), for x in units of 2^-53.
 fn turns(x: u64) -> u64
     requires { x ≤ 800 * 2 ^ 53 }
@@ -53,7 +55,7 @@ pub fn turned(a: f64) -> Reduced
     requires { Reduction.Tame a }
     ensures { (result.k ≡ Reduction.turn_k a) × (result.below ≡ Reduction.turn_below a) × (result.r ≡ Reduction.turn_rest a) }
 {
-    if a <= 0.7853981633974483 {
+    if a <= FRAC_PI_4 {
         return Reduced {
             k: 0,
             below: false,

@@ -4,6 +4,7 @@ ghost use Rattle.std.specs.Prelude.{◌≡◌, ℕ, ◌<◌, ◌≤◌};
 ghost use Rattle.trig.specs.Arctangent as Arctangent;
 
 use crate::series::{cosine_kernel, sine_kernel};
+use std::f64::consts::FRAC_PI_4;
 
 // The residual that is allowed: 2^-50.
 const SLACK: f64 = 8.881784197001252e-16;
@@ -28,7 +29,7 @@ pub fn start(t: f64) -> f64
     ensures { result ≡ Arctangent.start_float t }
 {
     if t > 0.41421356237309503 {
-        0.7853981633974483 + arc((t - 1.0) / (t + 1.0))
+        FRAC_PI_4 + arc((t - 1.0) / (t + 1.0))
     } else {
         arc(t)
     }
@@ -43,25 +44,32 @@ pub fn passes(t: f64, r: f64) -> bool
     s <= p + SLACK && p <= s + SLACK
 }
 
-// i * 2^-53. The grid's numbers have no type of their own, with their bound in it: `bisect` counts with them, and would
-// make such a value of `mid` at each halving, to take it apart at the next.
-pub fn grid(i: u64) -> f64
-    requires { i ≤ 7074237752028440 }
-    ensures { result ≡ Arctangent.grid_float i }
-{
-    (i as f64) * 1.1102230246251565e-16
+// The angle i * 2^-53, up to pi / 4.
+#[derive(Clone, Copy)]
+pub struct GridAngle {
+    pub i: u64,
+    pub ghost small: { i ≤ 7074237752028440 },
 }
 
-// Whether sin r <= t cos r at r = i * 2^-53, in floats.
-fn steep(t: f64, i: u64) -> bool
-    requires { i ≤ 7074237752028440 }
-    ensures { result ≡ Arctangent.steep t i }
-{
-    let r = grid(i);
-    sine_kernel(r) <= t * cosine_kernel(r)
+impl GridAngle {
+    // In radians.
+    pub fn radians(self) -> f64
+        ensures { result ≡ Arctangent.grid_float self.i }
+    {
+        (self.i as f64) * 1.1102230246251565e-16
+    }
+
+    // Whether sin r <= t cos r at this angle r, in floats.
+    fn steep(self, t: f64) -> bool
+        ensures { result ≡ Arctangent.steep t self.i }
+    {
+        let r = self.radians();
+        sine_kernel(r) <= t * cosine_kernel(r)
+    }
 }
 
-// The sure way.
+// The sure way. Over numbers, and not over two angles: it is the middle of the two that counts, and each end would be
+// taken out of its angle to find it.
 fn bisect(t: f64, lo: u64, hi: u64) -> u64
     requires { (lo < hi) × (hi ≤ 7074237752028440) }
     ensures name { Arctangent.Halved t lo hi result }
@@ -71,7 +79,7 @@ fn bisect(t: f64, lo: u64, hi: u64) -> u64
         lo
     } else {
         let mid = lo + (hi - lo) / 2;
-        if steep(t, mid) {
+        if (GridAngle { i: mid }).steep(t) {
             bisect(t, mid, hi)
         } else {
             bisect(t, lo, mid)
@@ -79,34 +87,23 @@ fn bisect(t: f64, lo: u64, hi: u64) -> u64
     }
 }
 
-// The guess, rounded to the grid: by the two tests of its definition. `clamp` answers a NaN for a NaN, which this takes
-// to 0; and `saturating_f64_to_u64(f).min(7074237752028440)` would be held to that definition by laws of both.
-fn guess(t: f64) -> u64
-    ensures name { result ≡ Arctangent.guess t }
-    ensures small { result ≤ 7074237752028440 }
+// The guess, rounded to the grid; a NaN and what is below zero to 0.
+fn guess(t: f64) -> GridAngle
+    ensures { result.i ≡ Arctangent.guess t }
 {
     let f = start(t) * 9007199254740992.0 + 0.5;
-    if f > 0.0 {
-        if f < 7074237752028440.0 {
-            std::num::truncating_f64_to_u64(f)
-        } else {
-            7074237752028440
-        }
-    } else {
-        0
-    }
+    let i = std::num::saturating_f64_to_u64(f).min(7074237752028440);
+    GridAngle { i }
 }
 
 // The angle of the tangent t.
-pub fn grid_angle(t: f64) -> u64
-    ensures name { result ≡ Arctangent.grid_angle t }
-    ensures small { result ≤ 7074237752028440 }
+pub fn grid_angle(t: f64) -> GridAngle
+    ensures { result.i ≡ Arctangent.grid_angle t }
 {
-    let i = guess(t);
-    let r = grid(i);
-    if passes(t, r) {
-        i
-    } else {
-        bisect(t, 0, 7074237752028440)
+    let near = guess(t);
+    if passes(t, near.radians()) {
+        return near;
     }
+    let i = bisect(t, 0, 7074237752028440);
+    GridAngle { i }
 }

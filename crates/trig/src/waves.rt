@@ -8,7 +8,8 @@ use crate::Pair;
 use crate::reduction::{Reduced, turned};
 use crate::series::{cosine_kernel, sine_kernel};
 
-// Whether |x| <= 800, and x so has a sine and a cosine.
+// Whether |x| <= 800, and x so has a sine and a cosine. By two comparisons, as the definition has it: `contains` of a
+// range asks for the lower end first and has a flag besides, so that the check does not find it (tried in `turnable`).
 #[tactic(auto, unfolding(crate::specs::Waves::served))]
 pub fn served(x: f64) -> bool
     ensures { result ≡ Waves.served x }
@@ -16,7 +17,7 @@ pub fn served(x: f64) -> bool
     x <= 800.0 && -800.0 <= x
 }
 
-// y, or -y. The size of x below is this too, and not `float::size`: the same test signs the answer.
+// y, or -y. Where a sine is asked the size of x is this too, and not `float::size`: the same test signs the answer.
 pub fn signed(y: f64, s: bool) -> f64
     ensures { result ≡ (if s then neg y else y) }
 {
@@ -27,11 +28,11 @@ pub fn signed(y: f64, s: bool) -> f64
 fn place(k: u64, below: bool, s: f64, c: f64) -> f64
     ensures { result ≡ Waves.placed (k % 4) below s c }
 {
-    if k % 2 == 0 {
-        let y = signed(s, below);
-        signed(y, k % 4 == 2)
-    } else {
-        signed(c, k % 4 == 3)
+    match k % 4 {
+        0 => signed(s, below),
+        1 => c,
+        2 => signed(s, !below),
+        _ => -c,
     }
 }
 
@@ -88,8 +89,7 @@ pub fn cosine_value(x: f64) -> f64
     if x == 0.0 {
         return 1.0;
     }
-    let a = signed(x, x < 0.0);
-    turned(a).wave(1)
+    turned(float::size(x)).wave(1)
 }
 
 pub fn pair_value(x: f64) -> Pair
@@ -104,9 +104,8 @@ pub fn pair_value(x: f64) -> Pair
     }
     let a = signed(x, x < 0.0);
     let p = turned(a).waves();
-    let sine = signed(p.sine, x < 0.0);
     Pair {
-        sine,
-        cosine: p.cosine,
+        sine: signed(p.sine, x < 0.0),
+        ..p
     }
 }

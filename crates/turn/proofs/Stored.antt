@@ -53,7 +53,7 @@ pub items_take : (j n : ℕ) (p q : List Float) → j ≤ n → take j (items_in
 unfolding items_in
 items_take j n p q h = take_table 6 pose_from 5 joints_from item j n p q h
 
-pose_sets : (x : ToolPose) (l : List Float) (b : ℕ) → pose_over x l b ≡ sets l b (pose_numbers x)
+pub pose_sets : (x : ToolPose) (l : List Float) (b : ℕ) → pose_over x l b ≡ sets l b (pose_numbers x)
 unfolding pose_over
 pose_sets x l b = simp towards_suc
 

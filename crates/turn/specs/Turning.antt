@@ -1,4 +1,5 @@
--- One turn of the machine that halves in lent outputs, by its numbers and two axes at hand: the last placed item is tested against the first that waits, which is then placed, or their midpoint is put before it.
+-- One turn of the machine that halves in lent outputs, by its numbers and two axes at hand: the last placed item is
+-- tested against the first that waits, which is then placed, or their midpoint is put before it.
 use Rattle.std.specs.Prelude.{ℕ, ◌+◌, ◌-◌, ◌*◌, ◌≤◌, ◌<◌, ◌≡◌, Bool, cond, List, [], eqb, leb, get_or, Float, None, Option, Some, Err, Ok, Result}
 use Rattle.geometry.specs.declared.Vec3.{Vec3}
 use Rattle.chain.specs.declared.Prepared.{Prepared}
@@ -133,7 +134,8 @@ absent = item (pose_from []) (joints_from [])
 abbrev pub reached : Prepared → Item → Vec3
 reached p t = (pose_of p t.joints).axis
 
--- of those that wait, from s up to `space`, the last `given` are given ones; the others have the pose that their joints reach
+-- of those that wait, from s up to `space`, the last `given` are given ones; the others have the pose that their joints
+-- reach
 pub record Cached (p : Prepared) (space : ℕ) (o : List Item) (k s given : ℕ) (axis_left endAxis : Vec3) : Type 0 where
   pub fewer : given ≤ space - s
   pub at_left : axis_left ≡ reached p (get_or o (k - 1) absent)

@@ -19,7 +19,7 @@ pub struct GivenPath<'a> {
     pub ghost joints_whole: { length joints.now ≡ count * 5 },
 }
 
-impl<'a> GivenPath<'a> {
+impl GivenPath<'_> {
     ghost use Rattle.turn.specs.Items as I;
     ghost use Rattle.turn.specs.Turning as S;
 

@@ -8,8 +8,9 @@ use chain::{Joints, ToolPose};
 use geometry::Vec3;
 use middle::Item;
 
-// The joint set whose five numbers begin there. No `From<[f64; 5]>` of `Joints` (which is chain's): most who call have
-// an index in flat numbers, so they would cut an array out at `i * 5` first.
+// The joint set whose five numbers begin there. Some who call have a place in flat numbers, some a slice that C lent
+// and a check found to be five long, and some a row of `as_chunks::<5>()`. A function of `&[f64; 5]` would serve the
+// last alone and read the same five numbers; as a `From` it would be crate chain's, whose type `Joints` is.
 #[tactic(auto, unfolding(crate::specs::Items::joints_in))]
 pub fn joints_in(joints: &[f64], at: usize) -> Joints
     requires { at + 5 ≤ length joints.now }
@@ -36,20 +37,14 @@ pub fn every_set<F: Fn(Joints) -> bool>(joints: &[f64], test: F) -> bool
     sets.iter().all(|set| test(joints_in(set, 0)))
 }
 
-// Writes the six numbers of a pose. By stores: `copy_from_slice` would want the same six written out as an array.
-#[tactic(auto, unfolding(crate::specs::Items::pose_over))]
+// Writes the six numbers of a pose.
 pub fn put_pose(p: ToolPose, out: &mut [f64], at: usize)
     requires { at + 6 ≤ length out.old }
     ensures { out.new ≡ S.pose_over p out.old at }
 {
     let tip = p.tip;
     let axis = p.axis;
-    out[at] = tip.x;
-    out[at + 1] = tip.y;
-    out[at + 2] = tip.z;
-    out[at + 3] = axis.x;
-    out[at + 4] = axis.y;
-    out[at + 5] = axis.z;
+    out[at..at + 6].copy_from_slice(&[tip.x, tip.y, tip.z, axis.x, axis.y, axis.z]);
 }
 
 #[tactic(auto, unfolding(crate::specs::Items::item_at))]

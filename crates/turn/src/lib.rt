@@ -2,6 +2,10 @@
 // comes to. Below the machine that takes turn after turn, so that a wrong turn is refused without its proofs.
 #![tactic(auto)]
 
+ghost use Rattle.std.specs.Prelude.{◌≡◌};
+ghost use Rattle.refusal.specs.Numbers.{refusal};
+ghost use Rattle.turn.specs.Stops.{cause_of};
+
 mod given;
 mod items;
 mod outputs;
@@ -13,7 +17,7 @@ pub use given::GivenPath;
 pub use items::{every_set, item_at, joints_in, space_in};
 use middle::Tolerances;
 pub use outputs::Outputs;
-use refusal::Cause;
+use refusal::{Cause, Refusal};
 pub use turning::{MOST, axis_at};
 
 // What a division goes by: the chain, made ready, and the tolerances.
@@ -45,7 +49,6 @@ pub enum Stop {
 }
 
 impl Stop {
-    ghost use Rattle.std.specs.Prelude.{◌≡◌};
     ghost use Rattle.turn.specs.Stops as S;
 
     pub fn cause(self) -> Cause
@@ -63,5 +66,14 @@ impl Stop {
         match self {
             Stop::TooMany(n) | Stop::NoSpace(n) => n,
         }
+    }
+}
+
+// A stop as a refusal: its cause, at no place. How many were inserted is no part of it.
+impl From<Stop> for Refusal {
+    ghost from_gives = { λ s r. r ≡ refusal (cause_of s) 0 };
+
+    fn from(s: Stop) -> Refusal {
+        Refusal::new(s.cause(), 0)
     }
 }

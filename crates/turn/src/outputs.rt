@@ -1,5 +1,8 @@
 // Two lent outputs of a path, six numbers for each pose and five for each joint set, with space for so many items.
 // `space` is a field and no method of the two lengths: then each index would be below the smaller of two quotients.
+// Three functions of the crates above make one of two lent slices. Tried: `over(poses, joints)` for the three. It is
+// proved, but its callers are not: where the struct comes from a call, no fact says that what a lent slice holds at the
+// end is what its field held.
 ghost use Rattle.std.specs.Prelude.{◌*◌, ◌≤◌, length};
 
 use crate::items::{item_at, put_pose};

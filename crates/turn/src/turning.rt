@@ -19,8 +19,7 @@ pub fn axis_at(p: Prepared, joints: &[f64], i: usize) -> Vec3
     requires { i * 5 + 5 ≤ length joints.now }
     ensures { result ≡ S.axis_at p joints.now i }
 {
-    let reached = pose_of(p, joints_in(joints, i * 5));
-    reached.axis
+    pose_of(p, joints_in(joints, i * 5)).axis
 }
 
 // A state that is not the last: something waits, in outputs with space for so many. Made once at each turn.
@@ -51,8 +50,7 @@ impl Unfinished {
         if self.given_next() {
             return self.m.end_axis;
         }
-        let pose = right.pose;
-        pose.axis
+        right.pose.axis
     }
 
     #[tactic(auto, unfolding(crate::specs::Turning::end_after))]

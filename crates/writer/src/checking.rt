@@ -41,12 +41,15 @@ pub fn write_check(
     ensures fit { result ≡ Ok tt → FitUpTo (length poses.now) poses.now }
 {
     let whole = poses.len() % 6 == 0;
+    // Before its place in the list: there, each round of the search made the refusal ready too, and a job of 1,360
+    // poses took 186,000 instructions and not 170,000, up to 0.31 ns a byte and not 0.21.
+    let finite = divide::numbers_finite(poses);
     demand(whole, Cause::LengthsDiffer, 0)?;
     chain::chain_check(k)?;
     demand(path::cone_good(cone), Cause::Cone, 0)?;
     demand(divide::tolerance_good(tol.chord), Cause::Tolerance, 0)?;
     demand(divide::tolerance_good(tol.axis), Cause::Tolerance, 0)?;
-    demand(divide::numbers_finite(poses), Cause::NotFinite, 0)?;
+    demand(finite, Cause::NotFinite, 0)?;
     demand(write_sizes(k, poses), Cause::TooLarge, 0)?;
     let space = job_within(kind_of(k), k.count, poses.len(), room);
     demand(space, Cause::NoSpace, 0)

@@ -18,7 +18,7 @@ fn rest_nought(rest: f64) -> bool
 fn second_nought(k: Kinematics) -> bool
     ensures { result ≡ S.second_nought k }
 {
-    k.count != 2 || rest_nought(k.second.rest)
+    k.second_rotary().is_none_or(|j| rest_nought(j.rest))
 }
 
 // Without a rest angle where every one of the chain is +0.0.

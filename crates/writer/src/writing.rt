@@ -13,7 +13,8 @@ use job::{Page, RecordKind};
 use middle::Tolerances;
 
 // ---- numbers
-// The lowest four bytes of a whole number, the lowest first.
+// The lowest four bytes of a whole number, the lowest first. Not of a `u32`: `put_job` asks no bound of how many poses
+// there are, so that the cut would only move to `count as u32`, and would have to be shown to keep the bytes.
 fn put_four(page: &mut Page<'_>, x: u64)
     requires { Fits page.old (S.bytes_of 4 x) }
     ensures { Put page.old (S.bytes_of 4 x) page.new }
@@ -109,8 +110,8 @@ fn put_second(page: &mut Page<'_>, kind: RecordKind, k: Kinematics)
     requires { Fits page.old (S.second_bytes (bytes_in kind) k) }
     ensures { Put page.old (S.second_bytes (bytes_in kind) k) page.new }
 {
-    if k.count == 2 {
-        put_rotary(page, kind, k.second);
+    if let Some(j) = k.second_rotary() {
+        put_rotary(page, kind, j);
     }
 }
 

@@ -7,8 +7,7 @@ use Rattle.std.specs.Prelude.{None}
 use Rattle.std.proofs.Common.{Err, rules, eqb-true}
 use Rattle.lists.proofs.Tests.{is}
 use Rattle.chain.specs.Checked.{Checked}
-use Rattle.chain.proofs.Passing.{demand_passed}
-use Rattle.maztubel.proofs.Demanded.{demand_refused}
+use Rattle.chain.proofs.Passing.{demand_passed, demand_refused}
 use Rattle.maztubel.proofs.Laws.{told_map, written_or, any_told, number_refused, number_served, writing_start, writing_step, writing_end}
 use Rattle.maztubel.proofs.of_each.Goals as goal
 

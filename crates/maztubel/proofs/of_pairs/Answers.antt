@@ -9,9 +9,8 @@ use Rattle.std.proofs.Common.{Err, rules, eqb-true}
 use Rattle.lists.proofs.Tests.{is}
 use Rattle.lists.proofs.Rows.{length_paired, get_or_paired}
 use Rattle.chain.specs.Checked.{Checked}
-use Rattle.chain.proofs.Passing.{demand_passed}
+use Rattle.chain.proofs.Passing.{demand_passed, demand_refused}
 use Rattle.trig.specs.Arctangent.{arctangent_of}
-use Rattle.maztubel.proofs.Demanded.{demand_refused}
 use Rattle.maztubel.proofs.Laws.{any_told_pairs, written_or, number_lengths, number_refused, number_served, writing_start, writing_step, writing_end}
 use Rattle.maztubel.proofs.of_pairs.Goals as goal
 

@@ -17,13 +17,13 @@ loop-angles-preserved c =
     elim c.match-reached_at.branch [
       | in-Some w ↦ record {
         count = rw (w.solutions-is, w.insert.ensures.count) (omega arith);
-        list = folding_step _ (omega arith) c.loop-angles.invariant.list (ap (λ (s : ArrayVec Joints). s.items) w.solutions-is ∙ w.insert.ensures.list ∙ taken_some _ _ _ _ _ _ _ (sym c.reached_at.ensures ∙ w.in-Some.is));
+        list = folding_step _ (omega (arith, ap length c.deref-angles-items.ensures.0)) c.loop-angles.invariant.list (ap (λ (s : ArrayVec Joints). s.items) w.solutions-is ∙ w.insert.ensures.list ∙ taken_some _ _ _ _ _ _ _ (sym (rw c.deref-angles-items.ensures.0 at c.reached_at.ensures) ∙ w.in-Some.is));
       }
       | in_default w ↦ record {
         count = rw w.solutions-is (omega arith);
-        list = folding_step _ (omega arith) c.loop-angles.invariant.list (ap (λ (s : ArrayVec Joints). s.items) w.solutions-is ∙ taken_none _ _ _ _ _ _ (sym c.reached_at.ensures ∙ w.in_default.is));
+        list = folding_step _ (omega (arith, ap length c.deref-angles-items.ensures.0)) c.loop-angles.invariant.list (ap (λ (s : ArrayVec Joints). s.items) w.solutions-is ∙ taken_none _ _ _ _ _ _ (sym (rw c.deref-angles-items.ensures.0 at c.reached_at.ensures) ∙ w.in_default.is));
       }
     ]
 
 pub returns : goal.returns
-returns c = folding_all (omega arith) c.loop-angles.invariant.list ∙ taken_all _ _ _ _ _
+returns c = folding_all (omega (arith, ap length c.deref-angles-items.ensures.0)) c.loop-angles.invariant.list ∙ taken_all _ _ _ _ _

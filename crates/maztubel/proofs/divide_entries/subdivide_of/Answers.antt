@@ -1,8 +1,7 @@
 use Rattle.std.proofs.Common.{◌≡◌, Err, rules, ap, ◌∙◌}
 use Rattle.divide.specs.declared.DivisionError.{DivisionError}
 use Rattle.lists.proofs.Tests.{is}
-use Rattle.chain.proofs.Passing.{demand_passed}
-use Rattle.maztubel.proofs.Demanded.{demand_refused}
+use Rattle.chain.proofs.Passing.{demand_passed, demand_refused}
 use Rattle.maztubel.proofs.DividesFor.{refused_by, subdivide_lengths, subdivide_bytes, subdivide_chain}
 use Rattle.maztubel.proofs.divide_entries.subdivide_of.Goals as goal
 

@@ -2,8 +2,7 @@ use Rattle.std.proofs.Common.{◌≡◌, Err, rules, ap, ◌∙◌}
 use Rattle.quote.specs.declared.QuoteError.{QuoteError}
 use Rattle.quote.specs.Quotation.{Quote}
 use Rattle.lists.proofs.Tests.{is}
-use Rattle.chain.proofs.Passing.{demand_passed}
-use Rattle.maztubel.proofs.Demanded.{demand_refused}
+use Rattle.chain.proofs.Passing.{demand_passed, demand_refused}
 use Rattle.maztubel.proofs.QuotesFor.{refused_by, quote_lengths, quote_bytes, quote_chain}
 use Rattle.maztubel.proofs.quote_entries.quote_of.Goals as goal
 

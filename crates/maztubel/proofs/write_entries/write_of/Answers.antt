@@ -1,7 +1,6 @@
 use Rattle.std.proofs.Common.{◌≡◌, Err, rules, ap, ◌∙◌}
 use Rattle.lists.proofs.Tests.{is}
-use Rattle.chain.proofs.Passing.{demand_passed}
-use Rattle.maztubel.proofs.Demanded.{demand_refused}
+use Rattle.chain.proofs.Passing.{demand_passed, demand_refused}
 use Rattle.maztubel.proofs.WritesFor.{refused_by, write_lengths, write_bytes, write_chain}
 use Rattle.maztubel.proofs.write_entries.write_of.Goals as goal
 

@@ -1,12 +1,15 @@
-use mathlib.Core.Path.{sym, ◌∙◌}
-use Rattle.meet.proofs.Seeking.{pair_found, pair_missed, pair_end}
+use native.Mathlib.Omega.{arith}
+use mathlib.Core.Path.{refl, ◌∙◌}
+use lib.ListN.{length}
+use Rattle.std.proofs.Common.{rules}
+use Rattle.std.proofs.lemmas.Iterator.{YieldsList-from_range}
+use Rattle.extremes.proofs.FirstSome.{first_mapped}
+use Rattle.meet.specs.MeetingSteps.{pair_of}
+use Rattle.meet.proofs.Seeking.{pairs_all}
 use Rattle.meet.proofs.pairs.first_pair.Goals as goal
 
-pub returns-in-Some : goal.returns-in-Some
-returns-in-Some c = pair_found _ _ _ c.loop-first-test.true c.loop-first.invariant (sym c.first_near.ensures ∙ c.in-Some.is)
-
-pub loop-first-preserved : goal.loop-first-preserved
-loop-first-preserved c = pair_missed _ _ _ c.loop-first-test.true c.loop-first.invariant (sym c.first_near.ensures ∙ c.in_default.is)
-
 pub returns : goal.returns
-returns c = pair_end _ _ c.loop-first-test.false c.loop-first.invariant
+returns c =
+    let l = c.args.balls.now in
+    first_mapped _ (λ i. i) (pair_of l) _ (search rules) _ _ c.find_map.ensures.ran c.find_map.ensures.runs (YieldsList-from_range 0 (length l) (length l) refl (omega arith))
+    ∙ pairs_all l

@@ -7,11 +7,8 @@ pub returns : goal.returns
 unfolding head_frame head_map_point head_map_direction
 returns c =
     rw (
-      c.from_axes.ensures,
-      c.carried-axis_z.ensures head_vector (λ s t v r h. search rules),
-      c.carried-axis_y.ensures head_vector (λ s t v r h. search rules),
-      c.carried-axis_x.ensures head_vector (λ s t v r h. search rules),
+      c.carried_frame.ensures head_vector (λ s t v r h. search rules),
       c.add-origin.ensures,
       c.carried.ensures head_point (λ s t v r h. search rules),
-      c.identity-still.ensures,
+      c.identity.ensures,
     )

@@ -7,10 +7,7 @@ pub returns : goal.returns
 unfolding table_frame table_map_point table_map_direction
 returns c =
     rw (
-      c.from_axes.ensures,
-      c.carried-axis_z.ensures table_vector (λ s t v r h. search rules),
-      c.carried-axis_y.ensures table_vector (λ s t v r h. search rules),
-      c.carried-axis_x.ensures table_vector (λ s t v r h. search rules),
+      c.carried_frame.ensures table_vector (λ s t v r h. search rules),
       c.carried-origin.ensures table_point (λ s t v r h. search rules),
-      c.identity-still.ensures,
+      c.identity.ensures,
     )

@@ -5,4 +5,4 @@ use Rattle.model.proofs.model_check.same_name.Goals as goal
 
 pub returns : goal.returns
 unfolding same_name
-returns c = c.eq.ensures ∙ rw (c.text-first.ensures, c.text-second.ensures) (same_is _ _)
+returns c = c.eq.ensures ∙ rw (c.name_in.ensures, c.name_in-2.ensures) (same_is _ _)

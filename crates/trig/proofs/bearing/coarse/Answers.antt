@@ -4,4 +4,4 @@ use Rattle.trig.specs.Arctangent.{grid_float}
 use Rattle.trig.proofs.bearing.coarse.Goals as goal
 
 pub returns : goal.returns
-returns c = c.grid.ensures ∙ ap grid_float c.grid_angle-i.ensures.name
+returns c = c.radians.ensures ∙ ap grid_float c.grid_angle.ensures

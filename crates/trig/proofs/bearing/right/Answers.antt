@@ -10,4 +10,4 @@ returns-then-y-x c = c.flat.ensures ∙ ap flat_float c.ratio-t.ensures ∙ pick
 
 pub returns-else-y-x : goal.returns-else-y-x
 unfolding right_float
-returns-else-y-x c = c.rise.ensures ∙ ap rise_float (c.grid_angle-i.ensures.name ∙ ap grid_angle c.ratio-t-else-y-x.ensures) ∙ drop _ _ _ c.if-y-x.false
+returns-else-y-x c = c.rise.ensures ∙ ap rise_float (c.grid_angle.ensures ∙ ap grid_angle c.ratio-t-else-y-x.ensures) ∙ drop _ _ _ c.if-y-x.false

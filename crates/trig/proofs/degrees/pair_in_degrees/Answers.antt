@@ -14,6 +14,6 @@ pub returns : goal.returns
 returns c =
     let x = c.args.x in
     let e = c.reduced.ensures in (
-      sine_is x c.if-x.false c.signed-a.result c.waves-p.result.sine c.signed-sine.result c.signed-a.ensures (degree_first c.signed-a.result _ _ _ c.waves-p.result.sine e.0 e.1 e.2 c.waves-p.ensures.0) c.signed-sine.ensures,
+      sine_is x c.if-x.false c.signed-a.result c.waves-p.result.sine c.signed.result c.signed-a.ensures (degree_first c.signed-a.result _ _ _ c.waves-p.result.sine e.0 e.1 e.2 c.waves-p.ensures.0) c.signed.ensures,
       cosine_is x c.if-x.false c.signed-a.result c.waves-p.result.cosine c.signed-a.ensures (degree_is 1 c.signed-a.result _ _ _ c.waves-p.result.cosine e.0 e.1 e.2 c.waves-p.ensures.1),
     )

@@ -19,9 +19,6 @@ pub overflow_add-mid : goal.overflow_add-mid
 overflow_add-mid t c =
     record { fits = room _ c.args.hi (middle c.args.lo c.args.hi c.requires.0 c.if-hi-lo-eq1.false).1 c.requires.1 }
 
-pub steep-requires : goal.steep-requires
-steep-requires t c = le_of_lt (lt_of_lt_of_le (middle c.args.lo c.args.hi c.requires.0 c.if-hi-lo-eq1.false).1 c.requires.1)
-
 pub bisect-requires : goal.bisect-requires
 bisect-requires t c =
     let m = middle c.args.lo c.args.hi c.requires.0 c.if-hi-lo-eq1.false in

@@ -3,7 +3,7 @@ use Rattle.trig.proofs.Bisection.{grid_kept, grid_halved}
 use Rattle.trig.proofs.tangent.grid_angle.Goals as goal
 
 pub returns-then-passes : goal.returns-then-passes
-returns-then-passes c = record { name = grid_kept c.args.t c.guess-i.result c.grid-r.result c.passes.result c.guess-i.ensures.name c.grid-r.ensures c.passes.ensures c.if-passes.true; small = c.guess-i.ensures.small }
+returns-then-passes c = grid_kept c.args.t c.guess-near.result.i c.radians.result c.passes.result c.guess-near.ensures c.radians.ensures c.passes.ensures c.if-passes.true
 
-pub returns-else-passes : goal.returns-else-passes
-returns-else-passes c = record { name = grid_halved c.args.t c.guess-i.result c.grid-r.result c.passes.result c.guess-i.ensures.name c.grid-r.ensures c.passes.ensures c.bisect.result c.if-passes.false c.bisect.ensures.name; small = c.bisect.ensures.small }
+pub returns : goal.returns
+returns c = grid_halved c.args.t c.guess-near.result.i c.radians.result c.passes.result c.guess-near.ensures c.radians.ensures c.passes.ensures c.bisect-i.result c.if-passes.false c.bisect-i.ensures.name

@@ -15,7 +15,7 @@ returns-in_err-demand-6-clause-checked c =
       ← c.cone_good.ensures,
       ← c.tolerance_good.ensures,
       ← c.tolerance_good-2.ensures,
-      ← c.numbers_finite.ensures.finite,
+      ← c.numbers_finite-finite.ensures.finite,
       ← c.write_sizes.ensures,
       is c.demand.ensures c.in_ok-demand.was,
       is c.chain_check.ensures c.in_ok-chain_check.was,

@@ -1,19 +1,15 @@
-use Rattle.std.proofs.Common.{refl, ◌∙◌, arith, length-set}
-use Rattle.job.proofs.Written.{written_number, length_number}
+use Rattle.job.specs.Spelling.{number}
+use Rattle.job.proofs.Written.{fits_first, fits_next, put_then}
 use Rattle.job.proofs.spelling.Page.put_number.Goals as goal
 
-pub bounds-self-self : goal.bounds-self-self
-bounds-self-self c =
-    let r = c.requires.room in
-    let k = length_number c.args.x in
-    omega (arith, r, k)
+pub put-requires : goal.put-requires
+unfolding number
+put-requires c = fits_first _ c.requires
 
-pub put_hexadecimal-requires : goal.put_hexadecimal-requires
-put_hexadecimal-requires c =
-    let r = c.requires.room in
-    let k = length_number c.args.x in
-    let m = length-set c.args.self.now.out.now c.args.self.now.at 32 in
-    omega (arith, r, k, m)
+pub put-requires-2 : goal.put-requires-2
+unfolding number
+put-requires-2 c = rw (c.hexadecimal.ensures, c.bits_of.ensures) (fits_next c.put.ensures c.requires)
 
 pub returns : goal.returns
-returns c = record { same = refl; whole = (rw c.bits_of-bits.ensures at c.put_hexadecimal.ensures) ∙ written_number _ _ _; behind = rw length_number }
+unfolding number
+returns c = put_then c.put.ensures (rw (c.hexadecimal.ensures, c.bits_of.ensures) at c.put-2.ensures)

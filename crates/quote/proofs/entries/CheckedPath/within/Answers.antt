@@ -1,17 +1,34 @@
 use native.Mathlib.Omega.{arith}
+use borrow.Author.Rules.{rules}
 use lib.ListN.{length}
+use mathlib.Core.Path.{◌≡◌, sym, ap, ◌∙◌}
+use Rattle.std.specs.Prelude.{Err, Ok, Result}
+use Rattle.turn.specs.declared.Stop.{Stop}
+use Rattle.quote.specs.declared.QuoteError.{QuoteError}
+use Rattle.quote.specs.Quotation.{Quote}
 use Rattle.quote.proofs.Answers.{short_so, enough_so}
 use Rattle.quote.proofs.entries.CheckedPath.within.Goals as goal
 
-pub returns-then-room_tips-lt-TIPS : goal.returns-then-room_tips-lt-TIPS
-returns-then-room_tips-lt-TIPS c = short_so c.args.self.now.k c.args.self.now.tol c.args.self.now.given.poses.now c.args.self.now.given.joints.now (length c.args.stack.now) c.args.room_tips (λ a b. omega (arith, b, c.if-room_tips-lt-TIPS.true))
+abbrev stopped : {A : Type 0} → Result A Stop → Quote
+stopped (Err s) = Err (QuoteError.Stopped s)
+stopped (Ok x) = Err (QuoteError.Stopped (Stop.NoSpace 0))
 
-pub returns-in_default : goal.returns-in_default
-returns-in_default c =
-    let few = c.in_default.ensures.cases in
-    short_so c.args.self.now.k c.args.self.now.tol c.args.self.now.given.poses.now c.args.self.now.given.joints.now (length c.args.stack.now) c.args.room_tips (λ a b. omega (arith, a, few))
+pub returns-then-room_tips-lt-TIPS : goal.returns-then-room_tips-lt-TIPS
+returns-then-room_tips-lt-TIPS c =
+    let e : c.into.result ≡ QuoteError.Stopped (Stop.NoSpace 0) = search rules in
+    rw e (short_so c.args.self.now.k c.args.self.now.tol c.args.self.now.given.poses.now c.args.self.now.given.joints.now (length c.args.stack.now) c.args.room_tips (λ a b. omega (arith, b, c.if-room_tips-lt-TIPS.true)))
+
+pub returns-in_err-waiting : goal.returns-in_err-waiting
+returns-in_err-waiting c =
+    let none = rw c.in_err-waiting.was at c.ok_or.ensures.ok_part in
+    let few = rw none at c.first_chunk_mut.ensures.cases in
+    let none_so = rw none at c.ok_or.ensures.value in
+    let s : ◌≡◌ {A = Quote} c.from_residual.result (Err (QuoteError.Stopped c.in_err-waiting.field-0.0)) = search rules in
+    let e = s ∙ ap stopped (sym c.in_err-waiting.was ∙ none_so) in
+    rw e (short_so c.args.self.now.k c.args.self.now.tol c.args.self.now.given.poses.now c.args.self.now.given.joints.now (length c.args.stack.now) c.args.room_tips (λ a b. omega (arith, a, few)))
 
 pub returns : goal.returns
 returns c =
-    let all = c.in-Some.ensures.cases.enough in
+    let some = rw c.in_ok-waiting.was at c.ok_or.ensures.ok_part in
+    let all = (rw some at c.first_chunk_mut.ensures.cases).enough in
     enough_so c.args.self.now.k c.args.self.now.tol c.args.self.now.given.poses.now c.args.self.now.given.joints.now (length c.args.stack.now) c.args.room_tips all c.if-room_tips-lt-TIPS.false c.quotation.ensures

@@ -1,4 +1,6 @@
-use Rattle.std.proofs.Common.{ℕ, ◌+◌, ◌%◌, ◌^◌, ◌<◌, ◌≤◌, arith}
+use Rattle.std.proofs.Common.{◌≡◌, ℕ, ◌+◌, ◌-◌, ◌*◌, ◌%◌, ◌^◌, ◌<◌, ◌≤◌, Bool, true, Option, Some, None, is_some, IfSome, sym, arith, rules}
+use Rattle.std.proofs.lemmas.Bool.{leb-true, ltb-true}
+use Rattle.root.specs.RootSteps.{Nearby, Confirmed}
 use Rattle.root.proofs.RootNearby.{small_halves, small_m, right_q, right_more, right_less}
 use Rattle.root.proofs.square_root.Parts.confirmed.Goals as goal
 
@@ -38,14 +40,16 @@ overflow_add-p c = record { fits = (sums _ _ (small_halves _ c.if-q-gt9007199254
 pub overflow_add-p-2 : goal.overflow_add-p-2
 overflow_add-p-2 c = record { fits = (sums _ _ (small_halves _ c.if-q-gt9007199254740992.false).2 c.if-q-gt9007199254740992.false).2 }
 
-pub returns-then-l-p : goal.returns-then-l-p
-returns-then-l-p c = right_more _ _ _ c.if-h-k.false c.if-t-w.false c.if-p-q.true c.if-l-p.true
+-- `then`: a test that lets a number through, which is then the nearest
+by_test : (m o q : ℕ) (r : Option ℕ) (b : Bool) → is_some r ≡ b → IfSome r (λ y. y ≡ q) → (b ≡ true → Nearby (m * (1 + o) * 2 ^ 52) q) → Confirmed m o r
+by_test m o q (Some y) b e p f = rw p (f (sym e))
+by_test m o q None b e p f = tt
+
+pub returns-then-p-q : goal.returns-then-p-q
+returns-then-p-q c = by_test _ _ (c.args.q + 1) c.then.result _ c.then.ensures.variant (search rules) (λ t. right_more _ _ _ c.if-h-k.false c.if-t-w.false c.if-p-q.true (leb-true _ _ t))
 
 pub returns-then-p-l : goal.returns-then-p-l
 returns-then-p-l c = right_q _ _ _ c.if-h-k.false c.if-t-w.false c.if-p-q.false c.if-p-l.true
 
-pub overflow_add-p-3 : goal.overflow_add-p-3
-overflow_add-p-3 c = record { fits = (sums _ _ (small_halves _ c.if-q-gt9007199254740992.false).2 c.if-q-gt9007199254740992.false).3 }
-
-pub returns-then-p-l-2 : goal.returns-then-p-l-2
-returns-then-p-l-2 c = right_less _ _ _ c.if-h-k.false c.if-t-w.false c.if-p-l.false c.if-p-l-2.true
+pub returns-else-p-l : goal.returns-else-p-l
+returns-else-p-l c = by_test _ _ (c.args.q - 1) c.then-else-p-l.result _ c.then-else-p-l.ensures.variant (search rules) (λ t. right_less _ _ _ c.if-h-k.false c.if-t-w.false c.if-p-l.false (ltb-true _ _ t))

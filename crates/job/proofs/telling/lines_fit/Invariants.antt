@@ -1,5 +1,0 @@
-use Rattle.job.proofs.Lines.{Fitting}
-use Rattle.job.proofs.telling.lines_fit.Given as goal
-
-abbrev pub invariant-loop-i : goal.invariant-loop-i
-invariant-loop-i l = Fitting l.n l.used l.room l.left l.i
