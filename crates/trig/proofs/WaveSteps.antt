@@ -178,6 +178,47 @@ placed_odd k b s t c h = elim (quarters k) [
     even' : (k : ℕ) → k % 4 ≡ 2 → k % 2 ≡ 0
     even' k e = omega arith
 
+-- the sign of each quarter, as `place` has it
+pub sign_even : (k : ℕ) (b : Bool) (s c y : Float) → k % 2 ≡ 0 → y ≡ cond b (neg s) s → cond (eqb (k % 4) 2) (neg y) y ≡ placed (k % 4) b s c
+sign_even k b s c y h e = elim (quarters k) [
+  | inl q ↦ subst (λ (q : ℕ). cond (eqb q 2) (neg y) y ≡ placed q b s c) (sym q) e
+  | inr u ↦ elim u [
+    | inl q ↦ absurd (clash k h q)
+    | inr v ↦ elim v [
+      | inl q ↦ subst (λ (q : ℕ). cond (eqb q 2) (neg y) y ≡ placed q b s c) (sym q) (ap neg e ∙ go b)
+      | inr q ↦ absurd (clash' k h q)
+    ]
+  ]
+]
+  where
+    clash : (k : ℕ) → k % 2 ≡ 0 → k % 4 ≡ 1 → ⊥
+    clash k h e = omega arith
+
+    clash' : (k : ℕ) → k % 2 ≡ 0 → k % 4 ≡ 3 → ⊥
+    clash' k h e = omega arith
+
+    go : (b : Bool) → neg (cond b (neg s) s) ≡ cond b s (neg s)
+    go true = neg_neg s
+    go false = refl
+
+pub sign_odd : (k : ℕ) (b : Bool) (s c : Float) → ((k % 2 ≡ 0) → ⊥) → cond (eqb (k % 4) 3) (neg c) c ≡ placed (k % 4) b s c
+sign_odd k b s c h = elim (quarters k) [
+  | inl q ↦ absurd (h (even k q))
+  | inr u ↦ elim u [
+    | inl q ↦ subst (λ (q : ℕ). cond (eqb q 3) (neg c) c ≡ placed q b s c) (sym q) refl
+    | inr v ↦ elim v [
+      | inl q ↦ absurd (h (even' k q))
+      | inr q ↦ subst (λ (q : ℕ). cond (eqb q 3) (neg c) c ≡ placed q b s c) (sym q) refl
+    ]
+  ]
+]
+  where
+    even : (k : ℕ) → k % 4 ≡ 0 → k % 2 ≡ 0
+    even k e = omega arith
+
+    even' : (k : ℕ) → k % 4 ≡ 2 → k % 2 ≡ 0
+    even' k e = omega arith
+
 -- ---- for the tests of x
 module _ (x : Float) where
   pub sine_is_zero : eq x plus_zero ≡ true → x ≡ sine_float x

@@ -24,15 +24,16 @@ pub fn signed(y: f64, s: bool) -> f64
     if s { -y } else { y }
 }
 
-// s, -s, c or -c by k modulo 4.
+// s, -s, c or -c by k modulo 4. Tried as a `match` on k % 4, as the definition has it: the sine and cosine of degrees
+// took 43.5 ns, not 41.5.
 fn place(k: u64, below: bool, s: f64, c: f64) -> f64
     ensures { result ≡ Waves.placed (k % 4) below s c }
 {
-    match k % 4 {
-        0 => signed(s, below),
-        1 => c,
-        2 => signed(s, !below),
-        _ => -c,
+    if k % 2 == 0 {
+        let y = signed(s, below);
+        signed(y, k % 4 == 2)
+    } else {
+        signed(c, k % 4 == 3)
     }
 }
 
