@@ -5,4 +5,5 @@ pub mod Reading
 pub mod Passing
 pub mod Rewriting
 pub mod Texts
+pub mod Room
 pub mod Answers

@@ -1,13 +1,16 @@
 //! Turns the text of a job into its bytes, its bytes into text, and tells what a reader says of them.
 //!
-//!     job bytes < name.txt > name.job
+//!     job bytes < name.txt > name.job      through the library's writer, which judges the job
+//!     job pack < name.txt > name.job       byte by byte with nothing judged, for tests and for jobs that must be refused
 //!     job text < name.job > name.txt
 //!     job read < name.job
 //!
+//! Where the writer refuses the job, `job bytes` writes no byte but says the refusal's number and words, as in
+//! `refused 18: the cone must be finite, above 0 and at most 10 degrees`; the status is then 1.
+//!
 //! # The text
 //!
-//! A line for each field, in the order of the bytes; each line stands for bytes, so any file can be written, a malformed one too.
-//! What stands behind a `#` is a comment.
+//! A line for each field, in the order of the bytes. What stands behind a `#` is a comment.
 //!
 //!     chain:                   here the chain starts, for chain-offset
 //!     count 2                  a byte: how many rotaries
@@ -32,7 +35,8 @@
 //!     chord 0.01
 //!     axis-tolerance 0.5
 //!
-//! and anywhere
+//! `job bytes` takes these lines in this order, and nothing between them: the writer leaves no gap. For `job pack` each line
+//! stands for its bytes, so any file can be packed, a malformed one too, from these lines in any order, and from
 //!
 //!     bytes 01 FF              bytes in hexadecimal
 //!     fill 100 00              so many of one byte
@@ -41,9 +45,10 @@
 //! the highest first, as answers are printed. A whole number that happens to have 16 digits has `.0` behind it.
 //!
 //! `job text` writes decimal where that gives the same bits, hexadecimal for a nan and an infinity, and `bytes` or `fill` for
-//! whatever no field stands for. `job bytes` of it gives the same file again, whatever the file.
+//! whatever no field stands for. `job pack` of it gives the same file again, whatever the file; `job bytes` does of every file
+//! that the writer has written.
 
-use job::{bytes_of, read, text_of};
+use job::{NotWritten, pack, read, text_of, write};
 use std::io::{self, Read, Write};
 use std::process::ExitCode;
 
@@ -51,10 +56,11 @@ fn main() -> ExitCode {
     let arguments: Vec<String> = std::env::args().skip(1).collect();
     let turn = match &arguments[..] {
         [command] if command == "bytes" => to_bytes,
+        [command] if command == "pack" => to_packed,
         [command] if command == "text" => to_text,
         [command] if command == "read" => to_answer,
         _ => {
-            eprintln!("job bytes | text | read, from standard input to standard output");
+            eprintln!("job bytes | pack | text | read, from standard input to standard output");
             return ExitCode::FAILURE;
         }
     };
@@ -77,8 +83,18 @@ fn run(turn: Turn) -> Result<(), String> {
 }
 
 fn to_bytes(input: Vec<u8>) -> Result<Vec<u8>, String> {
-    let text = String::from_utf8(input).map_err(|error| error.to_string())?;
-    bytes_of(&text).map_err(|fault| fault.to_string())
+    write(&text(input)?).map_err(|why| match why {
+        NotWritten::Fault(fault) => format!("{fault} (`job pack` takes lines in any order)"),
+        NotWritten::Refused(refusal) => refusal.to_string(),
+    })
+}
+
+fn to_packed(input: Vec<u8>) -> Result<Vec<u8>, String> {
+    pack(&text(input)?).map_err(|fault| fault.to_string())
+}
+
+fn text(input: Vec<u8>) -> Result<String, String> {
+    String::from_utf8(input).map_err(|error| error.to_string())
 }
 
 fn to_text(input: Vec<u8>) -> Result<Vec<u8>, String> {

@@ -1,6 +1,6 @@
 //! Going from bytes to text and back gives the same bytes, whatever they are; and the jobs of examples/jobs are their texts.
 
-use job::{bytes_of, read, text_of};
+use job::{pack, read, text_of};
 use std::fs;
 use std::path::Path;
 
@@ -31,8 +31,8 @@ impl Random {
 
 fn same_again(bytes: &[u8]) {
     let text = text_of(bytes);
-    assert_eq!(bytes_of(&text).as_deref(), Ok(bytes), "{text}");
-    assert_eq!(text_of(&bytes_of(&text).unwrap()), text);
+    assert_eq!(pack(&text).as_deref(), Ok(bytes), "{text}");
+    assert_eq!(text_of(&pack(&text).unwrap()), text);
 }
 
 const EXAMPLE: &str = "
@@ -61,7 +61,7 @@ axis-tolerance 0.5
 
 #[test]
 fn the_example() {
-    let bytes = bytes_of(EXAMPLE).unwrap();
+    let bytes = pack(EXAMPLE).unwrap();
     assert_eq!(bytes.len(), 104 + 2 * 48 + 40);
     assert_eq!(
         &bytes[200..216],
@@ -82,7 +82,7 @@ fn the_example() {
 /// The example with a rest angle, and the word that says so.
 fn rested() -> Vec<u8> {
     let text = EXAMPLE.replace("limits 0 0\n", "limits 0 0\nrest -90\n");
-    bytes_of(&text.replace("word 0", "word 1")).unwrap()
+    pack(&text.replace("word 0", "word 1")).unwrap()
 }
 
 #[test]
@@ -115,7 +115,7 @@ fn any_bytes() {
 /// A byte or several changed, one of the trailer's every other time, and bytes taken away or put in.
 #[test]
 fn damaged_jobs() {
-    let sound = [bytes_of(EXAMPLE).unwrap(), rested()];
+    let sound = [pack(EXAMPLE).unwrap(), rested()];
     let mut random = Random(2);
     for _ in 0..10_000 {
         let mut bytes = sound[random.below(2)].clone();
@@ -151,10 +151,10 @@ fn faults() {
         ("\n# nothing\nchain-offset chain", 3),
         ("chain:\nchain:", 2),
     ] {
-        assert_eq!(bytes_of(text).unwrap_err().line, line, "{text}");
+        assert_eq!(pack(text).unwrap_err().line, line, "{text}");
     }
     assert_eq!(
-        bytes_of("foo 1").unwrap_err().to_string(),
+        pack("foo 1").unwrap_err().to_string(),
         "line 1: 'foo 1' is not understood"
     );
 }
@@ -167,7 +167,7 @@ fn examples() {
         let text = entry.unwrap().path();
         if text.extension().is_some_and(|extension| extension == "txt") {
             let bytes = fs::read(text.with_extension("job")).unwrap();
-            let spelt = bytes_of(&fs::read_to_string(&text).unwrap());
+            let spelt = pack(&fs::read_to_string(&text).unwrap());
             assert_eq!(spelt.as_deref(), Ok(&bytes[..]), "{text:?}");
             same_again(&bytes);
             count += 1;

@@ -78,24 +78,29 @@ pub fn job_bytes(chain: &Chain, poses: &[Pose]) -> Vec<u8> {
     packed(&chain.bytes(), &pose_numbers(poses), NUMBERS)
 }
 
-/// A job's bytes from its parts, by hand: what the library writes is held to them. The last numbers are the cone and
-/// the tolerances.
+/// A job's bytes from its parts, by the packer of `tools/job`: what the library writes is held to them. The last numbers
+/// are the cone and the tolerances.
 pub fn packed(chain: &[u8], poses: &[f64], numbers: [f64; 3]) -> Vec<u8> {
-    let rested = [112, 192].contains(&chain.len());
-    let words = [
-        0,
-        chain.len() as u32,
-        poses.len() as u32 / 6,
-        u32::from(rested),
+    let bytes: Vec<String> = chain.iter().map(|byte| format!("{byte:02X}")).collect();
+    let poses: String = poses.chunks(6).map(|pose| line("pose", pose)).collect();
+    let word = u8::from([112, 192].contains(&chain.len()));
+    let [cone, chord, axis] = numbers.map(|number| [number]);
+    let text = [
+        format!("chain:\nbytes {}\nposes:\n", bytes.join(" ")),
+        poses,
+        "chain-offset chain\npose-offset poses\npose-count all\n".to_owned(),
+        format!("word {word}\n"),
+        line("cone", &cone),
+        line("chord", &chord),
+        line("axis-tolerance", &axis),
     ];
-    [
-        chain.to_vec(),
-        poses
-            .iter()
-            .flat_map(|number| number.to_le_bytes())
-            .collect(),
-        words.map(u32::to_le_bytes).concat(),
-        numbers.map(f64::to_le_bytes).concat(),
-    ]
-    .concat()
+    job::pack(&text.concat()).unwrap()
+}
+
+/// A field of the text with its numbers, by their bits.
+fn line(field: &str, numbers: &[f64]) -> String {
+    let words = numbers
+        .iter()
+        .map(|number| format!(" {:016X}", number.to_bits()));
+    format!("{field}{}\n", words.collect::<String>())
 }
