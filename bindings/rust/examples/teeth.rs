@@ -87,14 +87,18 @@ fn position(chain: &Chain, pose: &Pose) -> Result<Position, Refusal> {
 }
 
 fn main() -> Result<(), Refusal> {
-    let chain = tables();
-    let positions: Result<Vec<Position>, Refusal> =
-        poses().iter().map(|pose| position(&chain, pose)).collect();
-    print!("{}", picture(&positions?));
+    print!("{}", picture()?);
     Ok(())
 }
 
-fn picture(positions: &[Position]) -> String {
+pub fn picture() -> Result<String, Refusal> {
+    let chain = tables();
+    let positions: Result<Vec<Position>, Refusal> =
+        poses().iter().map(|pose| position(&chain, pose)).collect();
+    Ok(drawn(&positions?))
+}
+
+fn drawn(positions: &[Position]) -> String {
     let [width, height] = SIZE;
     let served = positions.iter().filter(|p| p.served).count();
     let tip = positions.iter().map(|p| p.tip_off).fold(0.0, f64::max);

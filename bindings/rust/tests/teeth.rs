@@ -3,8 +3,14 @@
 
 mod common;
 
+#[path = "../examples/teeth.rs"]
+#[allow(dead_code)]
+mod drawn_teeth;
+
 use common::*;
 use maztubel::*;
+use std::fs;
+use std::path::Path;
 
 /// The pose of a C head about z, from x, that stands at so many degrees.
 fn at(degrees: f64) -> Pose {
@@ -162,4 +168,14 @@ fn parallel_rotaries_are_served() {
     };
     let joints = choose_tooth(&parallel, &at(30.2), 0.0, Choice::Nearest([0.0; 2]), 0.5).unwrap();
     assert_eq!(joints.angles[0] + joints.angles[1], 30.0);
+}
+
+/// The picture in docs is the example's.
+#[test]
+fn the_picture() {
+    let drawn = Path::new(env!("CARGO_MANIFEST_DIR")).join("../../docs/teeth.svg");
+    assert_eq!(
+        fs::read_to_string(drawn).unwrap(),
+        drawn_teeth::picture().unwrap()
+    );
 }

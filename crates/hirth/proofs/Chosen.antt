@@ -1,5 +1,5 @@
--- Every angle that `choose` answers is a double of at most 36,900 degrees (`chosen-angles`): so it is snapped to its nearest
--- half degree (`chosen-nearest`), and no turn by a tooth is the fallback beyond 45,000 degrees.
+-- Every angle that `choose` answers is a double of at most 36,900 degrees (`chosen_angles`): so it is snapped to its nearest
+-- half degree (`chosen_nearest`), and no turn by a tooth is the fallback beyond 45,000 degrees.
 use Rattle.std.proofs.Common.{◌≡◌, ℕ, zero, suc, T, List, [], ◌∷◌, get_or, refl, sym, subst, lit≤}
 use lib.Ieee as Ieee
 use lib.Ieee.{Float, binary64, fits}

@@ -1,4 +1,4 @@
--- The promise of the profile. `choose` answers one of its own numbers (`choose-numbers`), none of which is 19, 30 or 31; so 31
+-- The promise of the profile. `choose` answers one of its own numbers (`choose_numbers`), none of which is 19, 30 or 31; so 31
 -- comes exactly where the solution on its teeth leaves the limits or breaks the tolerance, and 19 exactly for a bad tolerance.
 use Rattle.std.proofs.Common.{◌≡◌, ℕ, Bool, true, false, cond, ◌||◌, T, eqb, ltb, ◌⊎◌, ◌↔◌, List, [], ◌∷◌, length, sym, refl, ap, subst, inl, inr, arith}
 use lib.Ieee.{Float}

@@ -1,4 +1,4 @@
--- `snapped` is the nearest half degree (`nearest-tooth`): h half degrees for the whole number h nearest to twice the angle, a
+-- `snapped` is the nearest half degree (`nearest_tooth`): h half degrees for the whole number h nearest to twice the angle, a
 -- half away from zero, with the sign of the angle, and +0.0 for none. Each step but the rounding to a whole number is exact.
 use Rattle.std.proofs.Common.{◌≡◌, ℕ, zero, suc, ◌+◌, ◌*◌, ◌/◌, ◌^◌, ◌<◌, ◌≤◌, Bool, true, false, T, ℤ, sym, refl, ap, ◌∙◌, subst, le_trans, le_of_eq, le_of_suc-le-suc, lt_of_le_of_lt, mul-le-mul_right, div-lt_iff_lt-mul, le_antisymm, lt_of_mul-lt-mul_right, mul-lt-mul_of_pos_right, mul-pos, le-div_iff_mul-le, div-mul-le_self, le_of_mul-le-mul_right, arith, lit<, pow-add}
 use native.Mathlib.Nat.{lt-mul-div-succ}

@@ -8,5 +8,7 @@ pub mod Halves
 pub mod Placing
 pub mod OnATooth
 pub mod ToothBack
+-- The test of the reached axis.
+pub mod SmallAngle
 -- The refusals.
 pub mod Exactly

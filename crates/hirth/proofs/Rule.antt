@@ -1,4 +1,4 @@
--- The rule of the table, computed over all its entries at once (`teeth-right`), and cited at an index (`tooth-nearest`).
+-- The rule of the table, computed over all its entries at once (`teeth_right`), and cited at an index (`tooth_nearest`).
 use Rattle.std.proofs.Common.{ℕ, zero, suc, ◌+◌, ◌*◌, ◌^◌, ◌<◌, T, leb, List, [], ◌∷◌, length, get_or, sym, ◌∙◌, subst, le_of_suc-le-suc, not-suc-le-zero, add-zero, add-suc, suc-add, zero-add, leb→le}
 use lib.Ieee.Fits.{and_l, and_r}
 use Rattle.trig.specs.Fraction.{Frac}

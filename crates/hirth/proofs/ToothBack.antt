@@ -1,6 +1,6 @@
 -- The turn by a tooth is the turn by the negated angle with its sine negated, a zero staying +0.0, in every bit and for every
--- float (`tooth-back`). So `inverse`'s own step for the position, which turns a table forth from the turn by which forward moves
--- it, turns it by its tooth (`position-forth`). And no turn has a -0.0 (`tooth-sign`).
+-- float (`tooth_back`). So `inverse`'s own step for the position, which turns a table forth from the turn by which forward moves
+-- it, turns it by its tooth (`position_forth`). And no turn has a -0.0 (`tooth_sign`).
 use Rattle.std.proofs.Common.{◌≡◌, ℕ, Bool, true, false, cond, not, T, eqb, ℤ, sym, refl, ap, ◌∙◌}
 use lib.Ieee.{Float, nan, inf, fin, binary64, add, sub, mul, neg, le, lt, eq, of_bits, to_unsigned, fits}
 use lib.Ieee.Fits.{mul-fits, neg-fits, cond-fits}

@@ -1,7 +1,8 @@
 // The positioning profile: a chosen solution on its teeth, with its position worked out again, within the limits and
 // the tolerance.
-ghost use Rattle.std.specs.Prelude.{◌≡◌};
+ghost use Rattle.std.specs.Prelude.{◌≡◌, true};
 ghost use Rattle.hirth.specs.Profile as S;
+ghost use Rattle.hirth.specs.ProfileSteps as Steps;
 ghost use Rattle.hirth.specs.Promise as Promise;
 
 use crate::snapping::snapped_angles;
@@ -18,10 +19,42 @@ fn tooth_turns(p: Prepared, angles: Angles) -> Turns
     chain::turns_by(p, angles.a0, angles.a1, tooth_turn)
 }
 
-#[tactic(auto, unfolding(crate::specs::Profile::close))]
+// Whether an angle is surely within the tolerance, by the square of its sine and by its cosine: from a cosine of 15/16
+// up it is at most 73.4 degrees times the sine. It may say no of an angle that is within.
+#[tactic(auto, unfolding(crate::specs::ProfileSteps::surely_within))]
+fn surely_within(square: f64, cosine: f64, tolerance: f64) -> bool
+    ensures { result ≡ Steps.surely_within square cosine tolerance }
+{
+    0.0009765625 <= tolerance
+        && tolerance <= 64.0
+        && 0.9375 <= cosine
+        && 0.0 <= square
+        && square <= 1.0
+        && square * 5476.0 <= tolerance * tolerance
+}
+
+// The same of two axes, with no root of the square and no arctangent.
+fn surely_close(axis: Vec3, wanted: Vec3, tolerance: f64) -> bool
+    ensures { result ≡ true → S.close axis wanted tolerance ≡ true }
+{
+    let Some(a) = geometry::unit_direction(axis) else {
+        return false;
+    };
+    let Some(b) = geometry::unit_direction(wanted) else {
+        return false;
+    };
+    let across = geometry::cross(a, b);
+    let square = geometry::dot(across, across);
+    let cosine = float::clamp_unit(geometry::dot(a, b));
+    surely_within(square, cosine, tolerance)
+}
+
 fn close(axis: Vec3, wanted: Vec3, tolerance: f64) -> bool
     ensures { result ≡ S.close axis wanted tolerance }
 {
+    if surely_close(axis, wanted, tolerance) {
+        return true;
+    }
     geometry::angle_between_deg(axis, wanted) <= tolerance
 }
 
