@@ -1,5 +1,5 @@
--- The pose of joints is `forward`'s at tool length 0. `served-pose`: where `forward` serves joints, it gives that pose.
--- `pose-served`: it does serve them where its checks pass and the axis that they reach has a direction.
+-- The pose of joints is `forward`'s at tool length 0. `served_pose`: where `forward` serves joints, it gives that pose.
+-- `pose_served`: it does serve them where its checks pass and the axis that they reach has a direction.
 use mathlib.Core.Path.{◌≡◌, refl, ap}
 use mathlib.Core.Bool.{Bool, true, false, false≢true}
 use Rattle.std.specs.Prelude.{Err, None, Ok, Option, Result, Some}

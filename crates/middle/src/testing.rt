@@ -15,14 +15,14 @@ fn as_near(left: f64, right: f64) -> bool
     float::size(left - right) <= 1e-12
 }
 
-// The positions and both angles are not more than 1e-12 apart.
+// The positions and both angles are not more than 1e-12 apart. The angles are asked first: their gaps take no root.
 #[tactic(auto, unfolding(crate::specs::Testing::joints_unchanged))]
 pub fn joints_unchanged(left: Joints, right: Joints) -> bool
     ensures { result ≡ S.joints_unchanged left right }
 {
-    geometry::gap_vec(left.xyz, right.xyz) <= 1e-12
-        && as_near(left.a0, right.a0)
+    as_near(left.a0, right.a0)
         && as_near(left.a1, right.a1)
+        && geometry::gap_vec(left.xyz, right.xyz) <= 1e-12
 }
 
 // Halfway between two joint sets, number by number.

@@ -26,9 +26,10 @@ use Rattle.quote.specs.declared.Place.{Place}
 use Rattle.quote.specs.declared.QuoteError.{QuoteError}
 use Rattle.quote.specs.declared.Quoter.{Quoter}
 use Rattle.quote.specs.Quotation.{Quote, cost_of, evaluations_of, figures, quote_in, quotation}
-use Rattle.quote.specs.QuotationSteps.{arrived, next_given, first_waiting, verdict_of, past, with_midpoint, if_inserted, place_with, place_by, stack_by, place_after, stack_after, goes_on, keeping, stepped, begun, served_at, answer_in, Few, Runs}
+use Rattle.quote.specs.QuotationSteps.{arrived, next_given, first_waiting, verdict_of, past, with_midpoint, if_inserted, place_with, place_by, stack_by, place_after, stack_after, goes_on, keeping, stepped, PosesKept, KeptOf, begun, served_at, answer_in, Few, Runs}
 use Rattle.quote.proofs.Waiting.{waits, take_given, take_stacked, put_waiting, over_long, waits_first, waits_none}
-use Rattle.quote.proofs.Kept.{arrived_mid, right_kept}
+use Rattle.quote.proofs.Kept.{arrived_mid, keeps_place, right_kept}
+use Rattle.quote.proofs.Poses.{kept_none}
 use Rattle.quote.proofs.Costs.{cost_of_low}
 
 -- each test lowers it
@@ -70,10 +71,11 @@ module _ (p : Prepared) (tol : Tolerances) (count : ℕ) (lent solved : List Flo
     pub stack_long : 50000 ≤ length stack
     pub kept : length stack ≡ long
 
-  -- with what is kept of the evaluations
-  pub record Running (long : ℕ) (stack : List Float) (m : Quoter) : Type 0 where
+  -- with what is kept of the evaluations, and the poses beside the stack
+  pub record Running (long : ℕ) (stack tips : List Float) (m : Quoter) : Type 0 where
     pub going : Going long stack m.place
     pub keeps : m ≡ keeping p count m.place lent solved stack
+    pub poses : PosesKept p m.place.top stack tips
 
   begun_going : (stack : List Float) → 0 < count → 50000 ≤ length stack → Going (length stack) stack (begun lent solved)
   unfolding begun
@@ -90,18 +92,18 @@ module _ (p : Prepared) (tol : Tolerances) (count : ℕ) (lent solved : List Flo
     kept = refl;
   }
 
-  place_of : (s : Place) (stack : List Float) {m : Quoter} → m ≡ keeping p count s lent solved stack → s ≡ m.place
-  unfolding keeping
-  place_of s stack e = ap (λ (q : Quoter). q.place) (sym e)
-
   keeps_own : (s : Place) (stack : List Float) {m : Quoter} → m ≡ keeping p count s lent solved stack → m ≡ keeping p count m.place lent solved stack
-  keeps_own s stack e = e ∙ ap (λ (q : Place). keeping p count q lent solved stack) (place_of s stack e)
+  keeps_own s stack e = e ∙ ap (λ (q : Place). keeping p count q lent solved stack) (keeps_place p count lent solved stack e)
 
-  running : {long : ℕ} (s : Place) (stack : List Float) {m : Quoter} → m ≡ keeping p count s lent solved stack → Going long stack s → Running long stack m
-  running {long} s stack e g = record { going = subst (Going long stack) (place_of s stack e) g; keeps = keeps_own s stack e }
+  running : {long : ℕ} (s : Place) (stack tips : List Float) {m : Quoter} → m ≡ keeping p count s lent solved stack → Going long stack s → PosesKept p m.place.top stack tips
+      → Running long stack tips m
+  running {long} s stack tips e g poses = record { going = subst (Going long stack) (keeps_place p count lent solved stack e) g; keeps = keeps_own s stack e; poses = poses }
 
-  pub running_start : (stack : List Float) {m : Quoter} → m ≡ keeping p count (begun lent solved) lent solved stack → 0 < count → 50000 ≤ length stack → Running (length stack) stack m
-  running_start stack e h b = running (begun lent solved) stack e (begun_going stack h b)
+  pub running_start : (stack tips : List Float) {m : Quoter} → m ≡ keeping p count (begun lent solved) lent solved stack → 0 < count → 50000 ≤ length stack
+      → Running (length stack) stack tips m
+  unfolding begun
+  running_start stack tips e h b =
+      running (begun lent solved) stack tips e (begun_going stack h b) (subst (λ (s : Place). PosesKept p s.top stack tips) (keeps_place p count lent solved stack e) (kept_none p stack tips))
 
   snoc_long : (l : List Item) (x : Item) → length (l ++ x ∷ []) ≡ length l + 1
   snoc_long l x = length-append l (x ∷ [])
@@ -234,7 +236,7 @@ module _ (p : Prepared) (tol : Tolerances) (count : ℕ) (lent solved : List Flo
     after = by_verdict (divides p tol s.left r) refl
 
   -- ---- of the machine: one test from m leads to `step` and leaves the stack as stack'
-  module _ {long : ℕ} {stack : List Float} {m : Quoter} (n : Running long stack m) (more : goes_on count m.place ≡ true) {step : Option Quoter} {stack' : List Float}
+  module _ {long : ℕ} {stack tips : List Float} {m : Quoter} (n : Running long stack tips m) (more : goes_on count m.place ≡ true) {step : Option Quoter} {stack' : List Float}
       (is-step : step ≡ stepped p count lent solved stack' (place_after p tol m.place m.right)) (is-stack : stack' ≡ stack_after p tol m.place m.right stack) where
     waits_still : m.place.top + m.place.next < 10000 + count
     unfolding goes_on
@@ -250,15 +252,15 @@ module _ (p : Prepared) (tol : Tolerances) (count : ℕ) (lent solved : List Flo
         subst (After' (place_after p tol m.place m.right)) (sym is-stack)
         (subst (λ (t : Item). After' (place_after p tol m.place t) (stack_after p tol m.place t stack)) q (after n.going waits_still))
 
-    by_place : (o : Option Place) → After' o stack' → step ≡ stepped p count lent solved stack' o → (next : Quoter) → step ≡ Some next
-        → Running long stack' next × (to_do count next.place < to_do count m.place)
-    by_place None a e next f = many_on (sym e ∙ f)
-    by_place (Some s) a e next f =
+    by_place : {tips' : List Float} (o : Option Place) → After' o stack' → step ≡ stepped p count lent solved stack' o → (next : Quoter) → step ≡ Some next → KeptOf p stack' tips' step
+        → Running long stack' tips' next × (to_do count next.place < to_do count m.place)
+    by_place {tips'} None a e next f poses = many_on (sym e ∙ f)
+    by_place {tips'} (Some s) a e next f poses =
         let k : next ≡ keeping p count s lent solved stack' = on_one (sym e ∙ f) in
-        (running s stack' k a.0, subst (λ (z : Place). to_do count z < to_do count m.place) (place_of s stack' k) a.1)
+        (running s stack' tips' k a.0 (subst (KeptOf p stack' tips') f poses), subst (λ (z : Place). to_do count z < to_do count m.place) (keeps_place p count lent solved stack' k) a.1)
 
-    pub going_on : {next : Quoter} → step ≡ Some next → Running long stack' next × (to_do count next.place < to_do count m.place)
-    going_on {next} f = by_place (place_after p tol m.place m.right) after_here is-step next f
+    pub going_on : {tips' : List Float} {next : Quoter} → step ≡ Some next → KeptOf p stack' tips' step → Running long stack' tips' next × (to_do count next.place < to_do count m.place)
+    going_on {tips'} {next} f poses = by_place (place_after p tol m.place m.right) after_here is-step next f poses
 
     no_place : (o : Option Place) → After' o stack' → step ≡ stepped p count lent solved stack' o → step ≡ None → quotation p tol all ≡ Err (QuoteError.Stopped (Stop.TooMany 10000))
     no_place None a e f = a
@@ -267,22 +269,22 @@ module _ (p : Prepared) (tol : Tolerances) (count : ℕ) (lent solved : List Flo
     pub ran_many : step ≡ None → {said : Option Quoter} → said ≡ None → (quotation p tol all ≡ answer_in count said) × Few said
     ran_many f e = rw e (no_place (place_after p tol m.place m.right) after_here is-step f, tt)
 
-  pub going_runs : {long : ℕ} {stack : List Float} {m : Quoter} → Running long stack m → count ≤ 100000 → Runs count m.place
+  pub going_runs : {long : ℕ} {stack tips : List Float} {m : Quoter} → Running long stack tips m → count ≤ 100000 → Runs count m.place
   going_runs n w =
       let g = n.going in
       let a1 = g.top_low in let a2 = g.next_low in let a3 = g.few in let a4 = g.stack_few in let a5 = g.placed in let a6 = g.spent in
       ((a1, a2), ((a4, a3), omega arith))
 
-  pub advance_needs : {long : ℕ} {stack : List Float} {m : Quoter} → Running long stack m → count ≤ 100000 → goes_on count m.place ≡ true
-      → (Runs count m.place × (m.place.top + m.place.next < 10000 + count)) × (m ≡ keeping p count m.place lent solved stack)
+  pub advance_needs : {long : ℕ} {stack tips : List Float} {m : Quoter} → Running long stack tips m → count ≤ 100000 → goes_on count m.place ≡ true
+      → (Runs count m.place × (m.place.top + m.place.next < 10000 + count)) × ((m ≡ keeping p count m.place lent solved stack) × PosesKept p m.place.top stack tips)
   unfolding goes_on
-  advance_needs {long} {stack} {m} n l e =
-      ((going_runs n l, ltb-true (m.place.top + m.place.next) (most + count) e), n.keeps)
+  advance_needs {long} {stack} {tips} {m} n l e =
+      ((going_runs n l, ltb-true (m.place.top + m.place.next) (most + count) e), (n.keeps, n.poses))
 
-  pub going_end : {long : ℕ} {stack : List Float} {m : Quoter} → Running long stack m → goes_on count m.place ≡ false
+  pub going_end : {long : ℕ} {stack tips : List Float} {m : Quoter} → Running long stack tips m → goes_on count m.place ≡ false
       → (quotation p tol all ≡ served_at count m.place) × (m.place.inserted ≤ most)
   unfolding quotation division goes_on evaluations_of
-  going_end {long} {stack} {m} n f =
+  going_end {long} {stack} {tips} {m} n f =
       let g = n.going in
       let s = m.place in
       let h = ltb-false (s.top + s.next) (most + count) f in

@@ -1,5 +1,5 @@
--- What the machine keeps of its evaluations is what it would evaluate: at the start, when the first that waits stays, and
--- when a midpoint waits before it.
+-- What the machine keeps of its evaluations is what it would evaluate: at the start, when the first that waits stays,
+-- and when a midpoint waits before it.
 use Prim.Native.Nat.{ℕ, ◌+◌, ◌-◌, ◌*◌, ◌≤◌, ◌<◌}
 use mathlib.Core.Path.{◌≡◌, refl, sym, ap, ◌∙◌}
 use mathlib.Core.Bool.{Bool, true, false, cond}
@@ -66,6 +66,10 @@ module _ (p : Prepared) (count : ℕ) (lent solved stack : List Float) where
       ∙ ap (λ (t : Item). quoter s (reached p s.left) t axis_right endAxis) c
       ∙ ap (λ (v : Vec3). quoter s (reached p s.left) first v endAxis) e
       ∙ ap (λ (v : Vec3). quoter s (reached p s.left) first (reached p first) v) b
+
+  pub keeps_place : {s : Place} {m : Quoter} → m ≡ keeping p count s lent solved stack → s ≡ m.place
+  unfolding keeping
+  keeps_place e = ap (λ (q : Quoter). q.place) (sym e)
 
   -- ---- the parts of a machine that keeps what it would evaluate
   module _ (m : Quoter) (e : m ≡ keeping p count m.place lent solved stack) where

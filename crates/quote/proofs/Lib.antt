@@ -1,6 +1,7 @@
 pub mod Waiting
 pub mod Costs
 pub mod Kept
+pub mod Poses
 pub mod Steps
 pub mod Going
 pub mod Checks

@@ -14,11 +14,11 @@ use Rattle.chain.specs.declared.Prepared.{Prepared}
 use Rattle.path.specs.Solving.{joints_over}
 use Rattle.middle.specs.declared.Item.{Item}
 use Rattle.middle.specs.declared.Tolerances.{Tolerances}
-use Rattle.middle.specs.Testing.{midpoint, divides, verdict_with}
+use Rattle.middle.specs.Testing.{joints_unchanged, midpoint, divides, verdict_with}
 use Rattle.middle.proofs.Verdicts.{verdict_is}
 use Rattle.turn.specs.Turning.{most, reached}
 use Rattle.quote.specs.declared.Quoter.{Quoter}
-use Rattle.quote.specs.Quotation.{cost_of}
+use Rattle.quote.specs.Quotation.{per_test, cost_of}
 use Rattle.quote.specs.QuotationSteps.{arrived, verdict_of, past, with_midpoint, if_inserted, place_with, place_after, stack_after, keeping, stepped, with_middle, inserting}
 use Rattle.quote.proofs.Kept.{arrived_mid, left_kept, right_axis_kept, inserted_kept}
 
@@ -27,6 +27,16 @@ keep_divide e = let z : ◌≡◌ {A = ℕ} 0 1 = cc in absurd (omega arith)
 
 divide_one : {a b : Item} → Some a ≡ Some b → b ≡ a
 divide_one e = cc
+
+-- two that divide differ in their joints, so that their test counts
+counts_by : (v : Option Item) {middle : Item} (b : Bool) (n : ℕ) → cond b None v ≡ Some middle → n ≡ cond b 0 n
+counts_by v true n e = keep_divide e
+counts_by v false n e = refl
+
+pub divided_counts : (p : Prepared) (tol : Tolerances) (left right : Item) (axis_left axis_right : Vec3) {said : Option Item} {middle : Item} {tested : ℕ}
+    → said ≡ verdict_with p tol left right axis_left axis_right → said ≡ Some middle → tested ≡ per_test tol → tested ≡ cost_of tol left right
+unfolding verdict_with cost_of
+divided_counts p tol left right axis_left axis_right e f g = g ∙ counts_by _ (joints_unchanged left.joints right.joints) (per_test tol) (sym e ∙ f)
 
 -- a midpoint has the pose that its joint set reaches
 divided_arrived : (p : Prepared) (tol : Tolerances) (left right : Item) {middle : Item} → verdict_of p tol left right ≡ Some middle → middle ≡ arrived p middle.joints
@@ -46,6 +56,9 @@ module _ (p : Prepared) (tol : Tolerances) (count : ℕ) (m : Quoter) (lent solv
       is_said ∙ ap (λ (v : Vec3). verdict_with p tol m.place.left m.right v m.right_axis) (left_kept p count lent solved stack m kept)
       ∙ ap (verdict_with p tol m.place.left m.right (reached p m.place.left)) (right_axis_kept p count lent solved stack m kept)
       ∙ verdict_is p tol m.place.left m.right
+
+  pub divided_kept : {middle : Item} → said ≡ Some middle → middle ≡ arrived p middle.joints
+  divided_kept e = divided_arrived p tol m.place.left m.right (sym verdict_kept ∙ e)
 
   pub stepped_keep : {next : Quoter} → said ≡ None → next ≡ keeping p count (past m.place m.right tested) lent solved stack
       → (Some next ≡ stepped p count lent solved stack (place_after p tol m.place m.right)) × (stack ≡ stack_after p tol m.place m.right stack)

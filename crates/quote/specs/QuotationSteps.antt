@@ -1,14 +1,16 @@
 -- One step of the machine that finds a quotation's figures. It keeps no list: the last item that stays and the first
--- that waits are tested; then the second stays, or their midpoint waits before it.
-use Rattle.std.specs.Prelude.{ℕ, ⊤, ◌+◌, ◌-◌, ◌*◌, ◌≤◌, Bool, cond, List, eqb, ltb, Float, Err, None, Ok, Option, Some}
+-- that waits are tested; then the second stays, or their midpoint waits before it. The midpoints' joint sets wait in
+-- one scratch. The other has space for 10,000 tips, so for the poses of 5,000 of them: those are not evaluated again.
+use Rattle.std.specs.Prelude.{ℕ, ⊤, ◌+◌, ◌-◌, ◌*◌, ◌<◌, ◌≤◌, ◌≡◌, Bool, cond, List, eqb, ltb, Float, Err, None, Ok, Option, Some}
 use Rattle.geometry.specs.declared.Vec3.{Vec3}
 use Rattle.chain.specs.declared.Joints.{Joints}
 use Rattle.chain.specs.declared.Prepared.{Prepared}
-use Rattle.path.specs.Solving.{joints_over}
+use Rattle.chain.specs.declared.ToolPose.{ToolPose}
+use Rattle.path.specs.Solving.{pose_in, joints_over}
 use Rattle.middle.specs.declared.Item.{Item}
 use Rattle.middle.specs.declared.Tolerances.{Tolerances}
 use Rattle.middle.specs.Testing.{pose_of, midpoint, divides}
-use Rattle.turn.specs.Items.{item, joints_in, item_at}
+use Rattle.turn.specs.Items.{item, joints_in, item_at, pose_over}
 use Rattle.turn.specs.Turning.{most, axis_at, reached}
 use Rattle.turn.specs.declared.Stop.{Stop}
 use Rattle.quote.specs.declared.Place.{Place}
@@ -28,6 +30,17 @@ next_given count next = cond (ltb next count) next (count - 1)
 -- the joint set on top of the stack, or where the stack is empty the next given item
 unfoldable pub first_waiting : Prepared → (count top next : ℕ) → (lent solved stack : List Float) → Item
 first_waiting p count top next lent solved stack = cond (eqb top most) (item_at lent solved (next_given count next)) (arrived p (joints_in stack (top * 5)))
+
+-- ---- the poses that are kept: those of the joint sets from 5,000 on, which wait first
+abbrev pub bare : ℕ
+bare = 5000
+
+-- each is the pose that its joint set reaches
+abbrev pub PosesKept : Prepared → ℕ → (stack tips : List Float) → Type 0
+PosesKept p top stack tips = (i : ℕ) → top ≤ i + bare → i < bare → pose_in tips (i * 6) ≡ pose_of p (joints_in stack ((i + bare) * 5))
+
+unfoldable pub keep_pose : ToolPose → List Float → ℕ → List Float
+keep_pose pose tips i = cond (ltb i bare) tips (pose_over pose tips ((i - bare) * 6))
 
 -- whether one waits: on the stack, or a given item
 unfoldable pub goes_on : ℕ → Place → Bool
@@ -50,6 +63,9 @@ with_midpoint s tested = record { left = s.left; top = s.top - 1; next = s.next;
 
 unfoldable pub if_inserted : Place → Item → List Float → List Float
 if_inserted s middle stack = cond (eqb s.inserted most) stack (joints_over middle.joints stack ((s.top - 1) * 5))
+
+unfoldable pub if_kept : Place → Item → List Float → List Float
+if_kept s middle tips = cond (eqb s.inserted most) tips (keep_pose middle.pose tips (s.top - 1))
 
 unfoldable pub place_with : Place → ℕ → Option Place
 place_with s tested = cond (eqb s.inserted most) None (Some (with_midpoint s tested))
@@ -104,6 +120,11 @@ with_middle m middle tested = record {
 abbrev pub left_by : Option ⊤ → Quoter → Option Quoter
 left_by None m = None
 left_by (Some _) m = Some m
+
+-- the poses that are kept then
+abbrev pub KeptOf : Prepared → (stack tips : List Float) → Option Quoter → Type 0
+KeptOf p stack tips None = Unit {0}
+KeptOf p stack tips (Some m) = PosesKept p m.place.top stack tips
 
 unfoldable pub inserting : Quoter → Item → ℕ → Option Quoter
 inserting m middle tested = cond (eqb m.place.inserted most) None (Some (with_middle m middle tested))

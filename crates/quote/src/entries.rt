@@ -6,14 +6,11 @@ ghost use Rattle.quote.specs.Quotation as S;
 ghost use Rattle.quote.specs.AsDivided.{AsDivided};
 
 use crate::checking::quote_check;
-use crate::stepping::{NUMBERS, QuotedPath, STACK};
+use crate::stepping::{NUMBERS, QuotedPath, TIPS};
 use crate::{Figures, QuoteError};
 use chain::Kinematics;
 use middle::Tolerances;
 use turn::{GivenPath, Stop};
-
-// The numbers of 10,000 tips.
-const TIPS: usize = STACK * 3;
 
 // A path that the checks let pass.
 #[derive(Clone, Copy)]
@@ -25,8 +22,12 @@ struct CheckedPath<'a> {
 }
 
 impl CheckedPath<'_> {
-    // What the stack holds afterwards is not said.
-    fn quotation(&self, stack: &mut [f64; NUMBERS]) -> Result<Figures, QuoteError>
+    // What both scratches hold afterwards is not said.
+    fn quotation(
+        &self,
+        stack: &mut [f64; NUMBERS],
+        tips: &mut [f64; TIPS],
+    ) -> Result<Figures, QuoteError>
         ensures { let g = self.now.given in result ≡ S.quotation (prepared self.now.k) self.now.tol (given g.poses.now g.joints.now) }
     {
         if self.given.count == 0 {
@@ -38,18 +39,16 @@ impl CheckedPath<'_> {
             tol: self.tol,
             given: self.given,
         };
-        quoted.figures(stack)
+        quoted.figures(stack, tips)
     }
 
     // Where there is scratch for all that may wait.
-    fn within(&self, stack: &mut [f64], room_tips: usize) -> Result<Figures, QuoteError>
-        ensures { let g = self.now.given in result ≡ S.quote_checked self.now.k self.now.tol g.poses.now g.joints.now (length stack.old) room_tips }
+    fn within(&self, stack: &mut [f64], tips: &mut [f64]) -> Result<Figures, QuoteError>
+        ensures { let g = self.now.given in result ≡ S.quote_checked self.now.k self.now.tol g.poses.now g.joints.now (length stack.old) (length tips.old) }
     {
-        if room_tips < TIPS {
-            return Err(Stop::NoSpace(0).into());
-        }
         let waiting = stack.first_chunk_mut().ok_or(Stop::NoSpace(0))?;
-        self.quotation(waiting)
+        let poses = tips.first_chunk_mut().ok_or(Stop::NoSpace(0))?;
+        self.quotation(waiting, poses)
     }
 
     // With both scratches cleared, whatever it comes to.
@@ -62,7 +61,7 @@ impl CheckedPath<'_> {
         ensures joints { scratch_joints.new ≡ S.cleared scratch_joints.old }
         ensures tips { scratch_tips.new ≡ S.cleared scratch_tips.old }
     {
-        let answer = self.within(scratch_joints, scratch_tips.len());
+        let answer = self.within(scratch_joints, scratch_tips);
         scratch_joints.fill(0.0);
         scratch_tips.fill(0.0);
         answer

@@ -14,7 +14,7 @@ mod turning;
 use chain::Prepared;
 use geometry::Vec3;
 pub use given::GivenPath;
-pub use items::{every_set, item_at, joints_in, space_in};
+pub use items::{every_set, item_at, joints_in, put_pose, space_in};
 use middle::Tolerances;
 pub use outputs::Outputs;
 use refusal::{Cause, Refusal};

@@ -2,8 +2,9 @@
 
 use super::finishing::CONE;
 use super::forwards::{TOOL_LENGTH, TWO_TABLES, chain};
-use oracle::maztubel::{self, Asked, Course, Lent, Machine, Parts, Solved};
+use oracle::maztubel::{self, Asked, Course, Lent, Machine, Parts, Scratch, Solved};
 use oracle::models::{self, BOX, Link};
+use oracle::quotes::ENOUGH;
 
 const JOINTS: [f64; 5] = [100.0, -50.0, 20.0, 30.0, -70.0];
 const POSE: [f64; 6] = [100.0, -50.0, 20.0, 0.3, 0.4, 0.8];
@@ -15,6 +16,8 @@ const THROUGH_THE_CONE: [[f64; 6]; 6] = [
     [4.0, 0.0, 0.0, 0.0, 0.01, 1.0],
     [5.0, 0.0, 0.0, 0.02, 0.1, 1.0],
 ];
+/// Two poses with joints that differ, between which a quotation inserts some.
+const APART: [[f64; 5]; 2] = [JOINTS, [110.0, -50.0, 20.0, 40.0, -60.0]];
 const HINT: [f64; 2] = [10.0, 20.0];
 const ANGLES: [f64; 100] = [0.5; 100];
 /// All five turns of each angle lie within them.
@@ -30,6 +33,7 @@ pub struct Given {
     places: [u64; 4],
     tolerances: [f64; 3],
     balances: [u64; 32],
+    scratch: [Vec<f64>; 2],
     count: u64,
     at: u64,
     letter: u8,
@@ -38,7 +42,7 @@ pub struct Given {
 /// With its name.
 type Export = (&'static str, fn(&mut Given) -> u32);
 
-pub const EXPORTS: [Export; 28] = [
+pub const EXPORTS: [Export; 29] = [
     ("sine", |g| maztubel::maztubel_sine(0.5, &mut g.numbers[0])),
     ("cosine", |g| {
         maztubel::maztubel_cosine(0.5, &mut g.numbers[0])
@@ -148,6 +152,27 @@ pub const EXPORTS: [Export; 28] = [
         let summary = &g.numbers[..10];
         maztubel::first_above(&JOINTS, summary, 1, 1.0, &mut g.count, &mut g.at)
     }),
+    ("quote", |g| {
+        let [joints, tips] = &mut g.scratch;
+        let [mut poses, mut evaluations] = [0; 2];
+        let scratch = Scratch {
+            joints,
+            tips,
+            inserted: &mut g.count,
+            poses: &mut poses,
+            evaluations: &mut evaluations,
+            at: &mut g.at,
+            letter: &mut g.letter,
+        };
+        let solved = Solved {
+            chain: &g.chain,
+            poses: THROUGH_THE_CONE[..2].as_flattened(),
+            joints: APART.as_flattened(),
+        };
+        let number = maztubel::quote(solved, [1.0; 2], scratch);
+        assert_ne!(g.count, 0, "nothing is inserted");
+        number
+    }),
     ("grant", |g| maztubel::grant(&mut g.balances, 31, 1)),
     ("divide_for", |g| {
         let (poses, joints) = g.numbers.split_at_mut(130);
@@ -164,6 +189,24 @@ pub const EXPORTS: [Export; 28] = [
             joints: &JOINTS,
         };
         maztubel::divide_for(&mut g.balances, 31, solved, [1.0; 2], lent)
+    }),
+    ("quote", |g| {
+        let solved = Solved {
+            chain: &g.chain,
+            poses: &POSE,
+            joints: &JOINTS,
+        };
+        let ([joints, tips], [poses, evaluations, ..]) = (&mut g.scratch, &mut g.places);
+        let scratch = Scratch {
+            joints,
+            tips,
+            inserted: &mut g.count,
+            poses,
+            evaluations,
+            at: &mut g.at,
+            letter: &mut g.letter,
+        };
+        maztubel::quote(solved, [1.0; 2], scratch)
     }),
     ("links_meet", |g| {
         let lent = g.places.each_mut();
@@ -195,6 +238,7 @@ impl Given {
             places: [0; 4],
             tolerances: [0.0; 3],
             balances: [0; 32],
+            scratch: ENOUGH.map(|length| vec![0.0; length]),
             count: 0,
             at: 0,
             letter: 0,
