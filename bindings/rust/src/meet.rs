@@ -21,9 +21,9 @@ pub struct Meeting {
 /// of its length that reaches its rims. Two links meet where the middles are nearer than the sum of the radii. So this warns too soon
 /// rather than too late: each ball holds its solid, but for the rounding of the last places.
 ///
-/// Refused are what [`check_model`](crate::check_model) refuses, a joint that is not finite (16), and a pivot, a joint, or a solid's
-/// coordinate, radius or length above its limit (17): 100,000 mm for a pivot and a solid; a cylinder's axis has none. There may be any
-/// number of joint sets.
+/// Refused are what [`check_model`](crate::check_model) refuses, a joint that is not finite (16), and a pivot, a rest angle, a joint, or
+/// a solid's coordinate, radius or length above its limit (17): 100,000 mm for a pivot and a solid; a cylinder's axis has none. There
+/// may be any number of joint sets.
 ///
 /// ```
 /// use maztubel::{Carrier, Chain, Joints, Link, Machine, Meeting, Mount, Rotary, Solid, links_meet};

@@ -8,4 +8,4 @@ pub returns-then-ne : goal.returns-then-ne
 unfolding near
 returns-then-ne c =
     let e : same_kind c.args.left.kind c.args.right.kind ≡ false = search (rules, c.ne.ensures, c.if-ne.true) in
-    rw (c.gap_vec.ensures, e)
+    rw (c.nearer.ensures, e)
