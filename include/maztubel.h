@@ -478,8 +478,8 @@ uint32_t maztubel_solve_and_divide(const uint8_t *chain, size_t chain_length, co
  *   3 to 9  the chain
  *   30      the two rotaries are parallel, also for a path without poses
  *   16      a number of a pose or a joint set is not finite
- *   17      a pivot or a tip is above 100,000 mm in size, a position above 10,000,000 mm, an angle above 36,000
- *           degrees, or there are more than 100,000 poses
+ *   17      a pivot or a tip is above 100,000 mm in size, a position above 10,000,000 mm, an angle or a rest angle above
+ *           36,000 degrees, or there are more than 100,000 poses
  * Every other answer leaves +0.0 in the whole scratch, these refusals too:
  *   28      a scratch is shorter than that, also for a path without poses
  *   27      an insertion would be the 10,001st */
@@ -688,8 +688,9 @@ uint32_t maztubel_divide_for(uint64_t *balances, size_t balances_length, uint64_
  *   20      no whole joint sets
  *           the refusals of maztubel_check_model without 17
  *   16      a joint is not finite
- *   17      a pivot is above 100,000 mm in size, a position above 10,000,000 mm or an angle above 36,000 degrees; or of
- *           a solid a coordinate, the radius or the length above 100,000 mm. A cylinder's axis has no limit */
+ *   17      a pivot is above 100,000 mm in size, a position above 10,000,000 mm, or an angle or a rest angle above
+ *           36,000 degrees; or of a solid a coordinate, the radius or the length above 100,000 mm. A cylinder's axis has
+ *           no limit */
 uint32_t maztubel_links_meet(const uint8_t *name, size_t name_length, const uint8_t *chain, size_t chain_length,
                              const uint8_t *model, size_t model_length, const double *joints, size_t joints_length,
                              uint64_t *found, uint64_t *pose, uint64_t *first, uint64_t *second, uint64_t *at,

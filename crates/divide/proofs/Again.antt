@@ -1,4 +1,4 @@
--- A divided path that is divided again passes the checks again, and nothing is inserted: `divided-again`. What is
+-- A divided path that is divided again passes the checks again, and nothing is inserted: `divided_again`. What is
 -- inserted keeps within the sizes, as it lies between its ends, and the axis that it reaches has finite numbers.
 use Prim.Native.Nat.{ℕ, zero, suc, ◌+◌, ◌*◌, ◌/◌, ◌%◌, ◌≤◌}
 use native.Mathlib.Omega.{arith}

@@ -1,4 +1,4 @@
--- A division that is accepted is accepted with looser tolerances, and inserts no other poses: `never-dearer`.
+-- A division that is accepted is accepted with looser tolerances, and inserts no other poses: `never_dearer`.
 use Prim.Native.Nat.{ℕ}
 use mathlib.Core.Path.{◌≡◌}
 use mathlib.Core.Bool.{true}

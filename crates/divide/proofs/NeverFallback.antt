@@ -1,6 +1,6 @@
 -- Division takes no fallback. Every joint set that it comes to, given or inserted, is finite, within 10,000,000 mm and
 -- within 36,000 degrees; so at every one, and at the middle of every two, `forward` itself answers, with the pose that
--- the division takes (`division-plain`): its turns are made of a sine and a cosine, and the axis that it reaches has a
+-- the division takes (`division_plain`): its turns are made of a sine and a cosine, and the axis that it reaches has a
 -- direction. And the angle that is compared with the axis tolerance, and the axis between two that it is taken from,
 -- are made of an arctangent, an arccosine and sines that are all served.
 use mathlib.Core.Path.{◌≡◌, refl, sym, ap, ◌∙◌, subst}

@@ -1,5 +1,5 @@
 -- Every field of the records inside the price list's statement, written out down to floats: a field that is dropped or
--- says less makes these fail. `demand-3` and `result_Says` (PriceRefutes) do the same for `Price` and `Result`.
+-- says less makes these fail. `demand_3` and `result_says` (PriceRefutes) do the same for `Price` and `Result`.
 -- Then what the call of both says of looser tolerances, as the call itself, and the two wrong solvers of document 01
 -- against the record: one that repeats the first pose's joints, and one that answers a constant path.
 use Prim.Native.Nat.{ℕ, ◌+◌, ◌*◌, ◌/◌, ◌≤◌}

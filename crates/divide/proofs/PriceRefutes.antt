@@ -1,7 +1,7 @@
 -- The price list's statement against wrong programs: each that document 01 names for a division, and what `Price`,
 -- which both calls promise, says where a program answers so. Either it cannot be, or the answer is right after all.
 -- Then two theorems that guard the statement itself: `one_answer`, that it leaves one answer and one content of the
--- outputs, and `demand-3`, in which every field of `Price` and of `Result` stands written out.
+-- outputs, and `demand_3`, in which every field of `Price` and of `Result` stands written out.
 use Prim.Native.Nat.{ℕ, suc, ◌+◌, ◌-◌, ◌*◌, ◌≤◌, ◌<◌}
 use native.Mathlib.Omega.{arith}
 use mathlib.Core.Path.{◌≡◌, refl, sym, ap, ◌∙◌, subst}

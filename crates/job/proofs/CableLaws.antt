@@ -1,5 +1,5 @@
 -- The cable number is the largest: of joint sets within the limits of size, its turns are at most the size of some wind,
--- and no more turns are. And where it is answered: `cable-answered`.
+-- and no more turns are. And where it is answered: `cable_answered`.
 use Rattle.std.proofs.Common.{◌≡◌, ℕ, zero, suc, ◌%◌, ◌<◌, ◌≤◌, Bool, true, false, cond, not, ◌&&◌, eqb, ltb, ◌⊎◌, List, [], ◌∷◌, length, sym, refl, ◌∙◌, inl, inr, ⊎_elim, arith, ltb-false, ltb-true, le-ltb, lt-ltb, eq-eqb, ne_eqb}
 use mathlib.Core.Bool.{and-eq-true_iff}
 use lib.Ieee.{Float}

@@ -1,5 +1,5 @@
 -- What became of files as they were before there were rest angles: with the word 0 they are read exactly as before, and
--- every rest angle is +0.0 (`word-nought`, `rests-nought`). A word other than 0 and 1 is refused behind everything that
+-- every rest angle is +0.0 (`word_nought`, `rests_nought`). A word other than 0 and 1 is refused behind everything that
 -- is judged of the same places with the word 0 (`other_word`).
 use Rattle.std.proofs.Common.{◌≡◌, ℕ, ◌+◌, ◌≤◌, Bool, true, false, cond, eqb, ltb, leb, List, [], ◌∷◌, length, refl, ap, ◌∙◌, arith, le-ltb, ne_eqb}
 use Rattle.std.specs.Prelude.{Err, Ok, Result}

@@ -1,4 +1,4 @@
--- The axis that joints reach on a checked chain has finite numbers: `reached-finite`.
+-- The axis that joints reach on a checked chain has finite numbers: `reached_finite`.
 use mathlib.Core.Path.{◌≡◌}
 use mathlib.Core.Bool.{true}
 use Rattle.std.specs.Prelude.{None, Ok, Option, Some}

@@ -1,4 +1,4 @@
--- The unit vector of a vector of doubles has finite numbers, since none is above 2 in size (`unit-small` of geometry).
+-- The unit vector of a vector of doubles has finite numbers, since none is above 2 in size (`unit_small` of geometry).
 use mathlib.Core.Path.{◌≡◌, refl}
 use mathlib.Core.Bool.{true}
 use Rattle.std.specs.Prelude.{None, Option, Some}
