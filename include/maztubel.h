@@ -405,8 +405,9 @@ uint32_t maztubel_solve_path(const uint8_t *chain, size_t chain_length, const do
 
 /* ---- Division
  *
- * Inserts poses halfway between two neighbours until both tolerances hold at the middle of every two neighbours. Two
- * neighbours that fail stay as they are where their midpoint would be within 1e-12 of one of them.
+ * Inserts poses halfway between two neighbours until both tolerances hold at the middle of every two neighbours; in
+ * maztubel_subdivide_strict at both quarters too. Two neighbours that fail stay as they are where their midpoint would
+ * be within 1e-12 of one of them.
  *
  *   chord       how far the tip may be off, in mm, finite and above 0
  *   axis        how far the tool axis may be off, in degrees, finite and above 0
@@ -439,6 +440,23 @@ uint32_t maztubel_subdivide_path(const uint8_t *chain, size_t chain_length, cons
                                  const double *joints, size_t joints_length, double chord, double axis, double *out_poses,
                                  size_t out_poses_length, double *out_joints, size_t out_joints_length, uint64_t *inserted,
                                  uint64_t *at, uint8_t *letter);
+
+/* Divides as maztubel_subdivide_path does, by the strict test: both tolerances must hold at one quarter and at three
+ * quarters of the way between two neighbours too. On a long arc the tip can be right at the middle and wrong at both
+ * quarters; such a pair is divided here, and not there.
+ *
+ * A pair passes exactly if it passes the test of maztubel_subdivide_path, and the tip (mm) and the tool axis (degrees)
+ * are within chord and axis at 0.25 and at 0.75. Two neighbours pass, as there, if no joint differs by more than 1e-12.
+ * Poses are inserted halfway, as there.
+ *
+ * Where this call serves a path, the other one does too, for the same arguments and with the same space: it inserts no
+ * more, and only what is inserted here, in the same order. So 27 and 28 can come here where that one serves.
+ *
+ * Refusals: those of maztubel_subdivide_path, in the same order, which keep or clear both outputs as there. */
+uint32_t maztubel_subdivide_strict(const uint8_t *chain, size_t chain_length, const double *poses, size_t poses_length,
+                                   const double *joints, size_t joints_length, double chord, double axis,
+                                   double *out_poses, size_t out_poses_length, double *out_joints,
+                                   size_t out_joints_length, uint64_t *inserted, uint64_t *at, uint8_t *letter);
 
 /* Solves poses as maztubel_solve_path does, and divides them with the joints that it gives.
  *
@@ -488,6 +506,17 @@ uint32_t maztubel_quote(const uint8_t *chain, size_t chain_length, const double 
                         double *scratch_joints, size_t scratch_joints_length, double *scratch_tips,
                         size_t scratch_tips_length, uint64_t *inserted, uint64_t *poses_out, uint64_t *evaluations,
                         uint64_t *at, uint8_t *letter);
+
+/* The same of maztubel_subdivide_strict: what it inserts for the same arguments, exactly. A test counts five
+ * evaluations, also one that fails at the middle already, or none where no joint differs by more than 1e-12; each
+ * insertion counts one.
+ *
+ * Arguments, outputs, scratch and refusals are those of maztubel_quote, in the same order. */
+uint32_t maztubel_quote_strict(const uint8_t *chain, size_t chain_length, const double *poses, size_t poses_length,
+                               const double *joints, size_t joints_length, double chord, double axis,
+                               double *scratch_joints, size_t scratch_joints_length, double *scratch_tips,
+                               size_t scratch_tips_length, uint64_t *inserted, uint64_t *poses_out,
+                               uint64_t *evaluations, uint64_t *at, uint8_t *letter);
 
 /* ---- Jobs
  *

@@ -38,9 +38,10 @@ impl RotaryLimits {
 }
 ";
 
-/// Stands behind the copies of kinematics.rs, whose own text stays: how `solve_path` comes to one pose, told by its own steps, its
-/// loop over the poses with another rule inside the cone, `inverse`'s steps for one pair of angles, the clearance that it holds to
-/// the cone, the length that R-3 holds to 1e-9, and the gaps that `segment_within` holds to the tolerances.
+/// Stands behind the copies of kinematics.rs, whose own text stays: how `solve_path` comes to one pose, told by its own
+/// steps, its loop over the poses with another rule inside the cone, `inverse`'s steps for one pair of angles, the
+/// clearance that it holds to the cone, the length that R-3 holds to 1e-9, the gaps that `segment_within` holds to the
+/// tolerances, at any part of the way, what that test says, and the midpoint that `fill` inserts.
 const OF_A_POSE: &str = "
 #[derive(Clone, Copy, Debug, PartialEq)]
 pub(crate) enum Way {
@@ -131,11 +132,43 @@ impl Kinematics {
 
     /// Of the tip and of the axis, in the middle of two poses with their joints.
     pub(crate) fn gaps(&self, left: (ToolPose, Joints), right: (ToolPose, Joints)) -> Option<[f64; 2]> {
+        let [gaps] = self.gaps_at(left, right, [0.5])?;
+        Some(gaps)
+    }
+
+    /// The same at parts of the way, by lerp and slerp.
+    pub(crate) fn gaps_at<const N: usize>(
+        &self,
+        left: (ToolPose, Joints),
+        right: (ToolPose, Joints),
+        parts: [f64; N],
+    ) -> Option<[[f64; 2]; N]> {
         let axis = |joints: Joints| Some(self.forward(&joints, PATH_TOOL_LENGTH).ok()?.axis);
-        let between = slerp_axis(axis(left.1)?, axis(right.1)?, 0.5);
-        let mid = self.forward(&lerp_joints(left.1, right.1, 0.5), PATH_TOOL_LENGTH).ok()?;
-        let tip_gap = gap_vec(mid.tip, lerp_vec(left.0.tip, right.0.tip, 0.5));
-        Some([tip_gap, angle_between_deg(mid.axis, between)])
+        let [from, to] = [axis(left.1)?, axis(right.1)?];
+        let mut gaps = [[0.0; 2]; N];
+        for (gaps, part) in gaps.iter_mut().zip(parts) {
+            let reached = self.forward(&lerp_joints(left.1, right.1, part), PATH_TOOL_LENGTH).ok()?;
+            let tip_gap = gap_vec(reached.tip, lerp_vec(left.0.tip, right.0.tip, part));
+            *gaps = [tip_gap, angle_between_deg(reached.axis, slerp_axis(from, to, part))];
+        }
+        Some(gaps)
+    }
+
+    /// Whether the Rust's own test passes two poses with their joints; none where it does before it evaluates anything.
+    pub(crate) fn tested(&self, left: (ToolPose, Joints), right: (ToolPose, Joints), [chord, axis]: [f64; 2]) -> Option<bool> {
+        let test = Subdiv { kin: self, toolpath: \"p\", chord_tol_mm: chord, axis_tol_deg: axis, inserted: 0 };
+        let within = test.segment_within(left.0, left.1, right.0, right.1);
+        let within = within.expect(\"poses that are reached\");
+        (!joints_unchanged(left.1, right.1)).then_some(within)
+    }
+
+    /// The midpoint, unless its joints are those of one of the two.
+    pub(crate) fn midpoint(&self, left: Joints, right: Joints) -> Option<(ToolPose, Joints)> {
+        let joints = lerp_joints(left, right, 0.5);
+        if joints_unchanged(joints, left) || joints_unchanged(joints, right) {
+            return None;
+        }
+        Some((self.forward(&joints, PATH_TOOL_LENGTH).ok()?, joints))
     }
 
     /// Whether `sp1` and `sp2` let an axis by, which the test of the axis that is reached may refuse.

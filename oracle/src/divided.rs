@@ -238,7 +238,15 @@ impl fmt::Display for Told {
 
 /// Calls the export.
 pub fn ask(division: &Division, rooms: Rooms) -> Told {
-    lending(rooms, |lent| call(division, lent))
+    ask_by(maztubel::subdivide_path, division, rooms)
+}
+
+/// An export that divides given poses with their joints.
+pub type Divide = fn(Solved, [f64; 2], Lent) -> u32;
+
+/// The same, where joints are given by this export.
+pub fn ask_by(divide: Divide, division: &Division, rooms: Rooms) -> Told {
+    lending(rooms, |lent| call(divide, division, lent))
 }
 
 /// What a call tells that is lent such rooms, between guards.
@@ -265,7 +273,7 @@ pub fn lending(rooms: Rooms, call: impl FnOnce(Lent) -> u32) -> Told {
 }
 
 /// Each input stands between guards too, and all must stand as it did afterwards.
-fn call(division: &Division, lent: Lent) -> u32 {
+fn call(divide: Divide, division: &Division, lent: Lent) -> u32 {
     let chain = Guarded::bytes(&division.chain);
     let poses = Guarded::numbers(&division.poses);
     let others = Guarded::numbers(match &division.from {
@@ -280,7 +288,7 @@ fn call(division: &Division, lent: Lent) -> u32 {
                 poses: poses_lent,
                 joints: others.inner(),
             };
-            maztubel::subdivide_path(solved, division.tolerances, lent)
+            divide(solved, division.tolerances, lent)
         }
         From::Start { cone, .. } => {
             let course = Course {

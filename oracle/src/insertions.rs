@@ -445,7 +445,7 @@ fn inserted(divided: &Divided) -> &'static str {
     }
 }
 
-fn answered(answer: Answer) -> String {
+pub(crate) fn answered(answer: Answer) -> String {
     let refusal = match answer {
         Ok(_) => return "served".to_owned(),
         Err(refusal) => refusal,
@@ -485,7 +485,7 @@ fn example(division: &Division, rooms: Rooms, told: &Told) -> String {
     )
 }
 
-fn first_differences(told: &Told, must: &Told) -> String {
+pub(crate) fn first_differences(told: &Told, must: &Told) -> String {
     let brief = |told: &Told| {
         let Told { told, inserted } = told;
         let (number, at, letter) = (told.number, told.at, told.letter);

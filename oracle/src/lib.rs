@@ -98,6 +98,8 @@ pub mod replayed_quotas;
 #[cfg(original)]
 pub mod replayed_meetings;
 #[cfg(original)]
+pub mod replayed_stricts;
+#[cfg(original)]
 pub mod rust;
 #[cfg(original)]
 pub mod soak;
@@ -105,6 +107,12 @@ pub mod soak;
 pub mod solved;
 #[cfg(original)]
 pub mod stops;
+#[cfg(original)]
+pub mod strict_cases;
+#[cfg(original)]
+pub mod strict_tally;
+#[cfg(original)]
+pub mod stricts;
 #[cfg(original)]
 pub mod tally;
 pub mod targets;

@@ -298,16 +298,24 @@ pub struct Lent<'a> {
 
 /// The tolerances are that of the chord and that of the axis.
 pub fn subdivide_path(solved: Solved, tolerances: [f64; 2], lent: Lent) -> u32 {
+    divide(maztubel_subdivide_path, solved, tolerances, lent)
+}
+
+pub fn subdivide_strict(solved: Solved, tolerances: [f64; 2], lent: Lent) -> u32 {
+    divide(maztubel_subdivide_strict, solved, tolerances, lent)
+}
+
+fn divide(entry: Dividing, solved: Solved, [chord, axis]: [f64; 2], lent: Lent) -> u32 {
     unsafe {
-        maztubel_subdivide_path(
+        entry(
             solved.chain.as_ptr(),
             solved.chain.len(),
             solved.poses.as_ptr(),
             solved.poses.len(),
             solved.joints.as_ptr(),
             solved.joints.len(),
-            tolerances[0],
-            tolerances[1],
+            chord,
+            axis,
             lent.poses.as_mut_ptr(),
             lent.poses.len(),
             lent.joints.as_mut_ptr(),
@@ -330,9 +338,17 @@ pub struct Scratch<'a> {
     pub letter: &'a mut u8,
 }
 
-pub fn quote(solved: Solved, [chord, axis]: [f64; 2], scratch: Scratch) -> u32 {
+pub fn quote(solved: Solved, tolerances: [f64; 2], scratch: Scratch) -> u32 {
+    figures(maztubel_quote, solved, tolerances, scratch)
+}
+
+pub fn quote_strict(solved: Solved, tolerances: [f64; 2], scratch: Scratch) -> u32 {
+    figures(maztubel_quote_strict, solved, tolerances, scratch)
+}
+
+fn figures(entry: Quoting, solved: Solved, [chord, axis]: [f64; 2], scratch: Scratch) -> u32 {
     unsafe {
-        maztubel_quote(
+        entry(
             solved.chain.as_ptr(),
             solved.chain.len(),
             solved.poses.as_ptr(),

@@ -235,7 +235,7 @@ fn all(fewest: u64) -> Vec<(String, u64)> {
         .collect()
 }
 
-fn answered(answer: Answer) -> String {
+pub(crate) fn answered(answer: Answer) -> String {
     match answer {
         Ok(_) => "served".to_owned(),
         Err(refusal) => refusal.number.to_string(),

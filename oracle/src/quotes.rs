@@ -155,14 +155,22 @@ impl Room {
     }
 }
 
-/// Calls the export. Each input stands between guards too, and all must stand as it did afterwards.
-pub fn ask(division: &Division, [joints, tips]: Scratches) -> Told {
+/// Calls the export.
+pub fn ask(division: &Division, scratches: Scratches) -> Told {
+    ask_by(maztubel::quote, division, scratches)
+}
+
+/// An export that quotes.
+pub type Quote = fn(Solved, [f64; 2], Scratch) -> u32;
+
+/// The same by this export. Each input stands between guards too, and all must stand as it did afterwards.
+pub fn ask_by(quote: Quote, division: &Division, [joints, tips]: Scratches) -> Told {
     let chain = Guarded::bytes(&division.chain);
     let [poses, solved] = [&division.poses[..], joints_of(division)].map(Guarded::numbers);
     let [mut joints, mut tips] = [joints, tips].map(Room::new);
     let (mut at, mut letter) = ([LENT_AT; 3], [LENT_LETTER; 3]);
     let [mut inserted, mut poses_out, mut evaluations] = [[LENT_COUNT; 3]; 3];
-    let number = maztubel::quote(
+    let number = quote(
         Solved {
             chain: chain.inner(),
             poses: poses.inner(),

@@ -18,7 +18,7 @@ const MOST_ROOMS: [usize; 2] = [256, 128];
 const LONG_ROOMS: [usize; 2] = [60_012, 50_010];
 
 /// Every entry, by its number in a case.
-pub const ENTRIES: [&str; 26] = [
+pub const ENTRIES: [&str; 28] = [
     "check_chain",
     "forward",
     "check_model",
@@ -45,6 +45,8 @@ pub const ENTRIES: [&str; 26] = [
     "divide_for",
     "choose_tooth",
     "links_meet",
+    "subdivide_strict",
+    "quote_strict",
 ];
 
 /// What a call is given: the choice or the rotary; the bytes of a chain or of a job; a name, a model and a carrier; two slices of
@@ -62,7 +64,7 @@ impl Given<'_> {
     fn fits(&self, entry: usize, number: u32) -> bool {
         let fit = |numbers: &&[f64]| numbers.len() <= MOST_NUMBERS;
         let most = match (ENTRIES[entry], number) {
-            ("quote", _) | (_, 27) => LONG_ROOMS,
+            ("quote" | "quote_strict", _) | (_, 27) => LONG_ROOMS,
             _ => MOST_ROOMS,
         };
         let [first, second] = [0, 1].map(|i| self.rooms[i] <= most[i]);

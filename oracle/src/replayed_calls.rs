@@ -226,7 +226,12 @@ fn later(i: usize, random: &mut Random) -> Option<Vec<Replayed>> {
 }
 
 /// What a call must tell with such a space.
-fn of_rooms(entry: &str, division: &Division, answer: Answer, rooms: Rooms) -> Option<Replayed> {
+pub fn of_rooms(
+    entry: &str,
+    division: &Division,
+    answer: Answer,
+    rooms: Rooms,
+) -> Option<Replayed> {
     let told = divided::telling(answer, rooms);
     let [poses, joints] = lent_twice(&told.told.numbers, rooms);
     let (at, letter) = (told.told.at[1], told.told.letter[1]);

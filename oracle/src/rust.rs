@@ -139,7 +139,11 @@ macro_rules! on_plain_numbers {
                 }
             }
 
-            fn set_numbers(joints: Joints) -> [f64; 5] {
+            pub fn pose_numbers(pose: ToolPose) -> Vec<f64> {
+                numbers(&[pose.tip, pose.axis])
+            }
+
+            pub fn set_numbers(joints: Joints) -> [f64; 5] {
                 let Joints { xyz, angles } = joints;
                 [xyz.x(), xyz.y(), xyz.z(), angles[0], angles[1]]
             }
@@ -265,9 +269,8 @@ macro_rules! on_plain_numbers {
                 let joints: Vec<Joints> = joints.chunks(5).map(joint_set).collect();
                 let divided = subdivide(setup, "p", &poses, &joints, chord, axis);
                 let (poses, joints) = divided.map_err(words)?;
-                let poses = poses.into_iter().map(|pose| [pose.tip, pose.axis]);
                 Ok([
-                    poses.flat_map(|pair| numbers(&pair)).collect(),
+                    poses.into_iter().flat_map(pose_numbers).collect(),
                     joints.into_iter().flat_map(set_numbers).collect(),
                 ])
             }

@@ -12,6 +12,7 @@ use crate::parts::Outcome;
 use crate::quote_tally::Quotes;
 use crate::quota_tally::Quotas;
 use crate::random::Random;
+use crate::strict_tally::Stricts;
 use crate::tally::Tally as Chains;
 use crate::tooth_tally::Teeth;
 use crate::wave_tally::Waves;
@@ -30,6 +31,7 @@ pub struct Soak {
     paths: Ways,
     divisions: Insertions,
     quotes: Quotes,
+    stricts: Stricts,
     jobs: JobTally,
     writes: WriteTally,
     extremes: Extremes,
@@ -41,7 +43,7 @@ pub struct Soak {
 type Part = fn(&mut Soak, &mut Random);
 
 /// Of the parts six divide, half of the time each of the two entries, and three solve paths: their calls take longest.
-const ROUND: [Part; 26] = [
+const ROUND: [Part; 27] = [
     Soak::waves,
     Soak::chains,
     Soak::inverses,
@@ -65,6 +67,7 @@ const ROUND: [Part; 26] = [
     Soak::writes,
     Soak::extremes,
     Soak::quotes,
+    Soak::stricts,
     Soak::quotas,
     Soak::teeth,
     Soak::meetings,
@@ -72,13 +75,14 @@ const ROUND: [Part; 26] = [
 
 /// One round in so many, the second of them first, has the cases that take longer.
 const ROUNDS: u64 = 32;
-const LONG: [Part; 8] = [
+const LONG: [Part; 9] = [
     Soak::long_paths,
     Soak::exact_divisions,
     Soak::long_divisions,
     Soak::short_jobs,
     Soak::long_extremes,
     Soak::exact_quotes,
+    Soak::exact_stricts,
     Soak::many_quotas,
     Soak::long_meetings,
 ];
@@ -91,6 +95,7 @@ impl Outcome for Soak {
         self.paths.add(more.paths);
         self.divisions.add(more.divisions);
         self.quotes.add(more.quotes);
+        self.stricts.add(more.stricts);
         self.jobs.add(more.jobs);
         self.writes.add(more.writes);
         self.extremes.add(more.extremes);
@@ -153,6 +158,10 @@ impl Soak {
         self.quotes.compare_drawn(400, random);
     }
 
+    fn stricts(&mut self, random: &mut Random) {
+        self.stricts.compare_drawn(400, random);
+    }
+
     fn quotas(&mut self, random: &mut Random) {
         self.quotas.compare_drawn(40, random);
     }
@@ -186,6 +195,11 @@ impl Soak {
         self.quotes.compare_others(random);
     }
 
+    fn exact_stricts(&mut self, random: &mut Random) {
+        self.stricts.compare_exact(random);
+        self.stricts.compare_others(random);
+    }
+
     fn long_extremes(&mut self, random: &mut Random) {
         self.extremes.compare_long(random);
     }
@@ -198,7 +212,7 @@ impl Soak {
         self.meetings.compare_long(random);
     }
 
-    fn families(&self) -> [&dyn Account; 12] {
+    fn families(&self) -> [&dyn Account; 13] {
         let Soak {
             waves,
             chains,
@@ -209,13 +223,14 @@ impl Soak {
             writes,
             extremes,
             quotes,
+            stricts,
             quotas,
             teeth,
             meetings,
         } = self;
         [
-            waves, chains, inverses, paths, divisions, jobs, writes, extremes, quotes, quotas,
-            teeth, meetings,
+            waves, chains, inverses, paths, divisions, jobs, writes, extremes, quotes, stricts,
+            quotas, teeth, meetings,
         ]
     }
 

@@ -10,6 +10,7 @@ use crate::machines::usual;
 use crate::paths::JOINTS;
 use crate::random::Random;
 use crate::rust::ported;
+use crate::stricts;
 use crate::walks::poses_of;
 
 const TOLERANCES: [f64; 2] = [0.01, 0.05];
@@ -23,17 +24,35 @@ struct Zigzag {
     chain: Chain,
     ends: [[f64; JOINTS]; 2],
     narrow: f64,
-    solved: bool,
+    how: How,
+}
+
+/// Solved in the same call, given its joints, or given them and divided strictly.
+#[derive(Clone, Copy, PartialEq)]
+enum How {
+    Solved,
+    Given,
+    Strictly,
 }
 
 /// A path that needs `count` insertions, at most one more than may be; solved in the same call, or given its joints.
 pub fn needing(count: usize, solved: bool, random: &mut Random) -> Division {
-    let mut drawn = (0..DRAWN).filter_map(|_| Zigzag::drawn(solved, random)?.needing(count));
+    let how = if solved { How::Solved } else { How::Given };
+    needing_by(count, how, random)
+}
+
+/// One that needs them in a strict division.
+pub fn needing_strictly(count: usize, random: &mut Random) -> Division {
+    needing_by(count, How::Strictly, random)
+}
+
+fn needing_by(count: usize, how: How, random: &mut Random) -> Division {
+    let mut drawn = (0..DRAWN).filter_map(|_| Zigzag::drawn(how, random)?.needing(count));
     drawn.next().expect("a path of so many insertions")
 }
 
 impl Zigzag {
-    fn drawn(solved: bool, random: &mut Random) -> Option<Self> {
+    fn drawn(how: How, random: &mut Random) -> Option<Self> {
         let mut chain = usual(random);
         if random.below(3) == 0 {
             let [first, second] = chain.rotaries;
@@ -56,7 +75,7 @@ impl Zigzag {
             chain,
             ends: [from, std::array::from_fn(|i| from[i] + by[i])],
             narrow: 1.0,
-            solved,
+            how,
         };
         for _ in 0..20 {
             if zigzag.inserted(&zigzag.path(0, 1)) == Some(1) {
@@ -102,13 +121,16 @@ impl Zigzag {
         joints
     }
 
-    /// What the Rust inserts.
+    /// What the Rust inserts, or the reference of the strict division.
     fn inserted(&self, joints: &[f64]) -> Option<usize> {
         let setup = ported::setup(&self.chain);
         let poses = poses_of(&self.chain, joints);
-        let solved = match self.solved {
-            true => ported::solve_path(&setup, &poses, &joints[..JOINTS], CONE).ok()?,
-            false => joints.to_vec(),
+        let solved = match self.how {
+            How::Solved => ported::solve_path(&setup, &poses, &joints[..JOINTS], CONE).ok()?,
+            How::Given => joints.to_vec(),
+            How::Strictly => {
+                return stricts::inserted(&setup.kinematics, &poses, joints, TOLERANCES);
+            }
         };
         let [_, divided] = ported::subdivide_path(&setup, &poses, &solved, TOLERANCES).ok()?;
         Some((divided.len() - solved.len()) / JOINTS)
@@ -118,12 +140,12 @@ impl Zigzag {
         Division {
             chain: self.chain.bytes(),
             poses: poses_of(&self.chain, joints),
-            from: match self.solved {
-                true => From::Start {
+            from: match self.how {
+                How::Solved => From::Start {
                     start: joints[..JOINTS].to_vec(),
                     cone: CONE,
                 },
-                false => From::Joints(joints.to_vec()),
+                How::Given | How::Strictly => From::Joints(joints.to_vec()),
             },
             tolerances: TOLERANCES,
         }

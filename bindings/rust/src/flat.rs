@@ -515,9 +515,57 @@ pub fn subdivide_path(
     out_poses: &mut [f64],
     out_joints: &mut [f64],
 ) -> Told {
+    let entry = maztubel_subdivide_path;
+    divided(
+        entry,
+        chain,
+        poses,
+        joints,
+        [chord, axis],
+        out_poses,
+        out_joints,
+    )
+}
+
+/// The same by the strict test, which holds both tolerances to one quarter and three quarters of the way too.
+///
+/// ```
+/// use maztubel::flat;
+/// assert_eq!(flat::subdivide_strict(&[0], &[], &[], 1.0, 0.0, &mut [], &mut []).number, 19);
+/// ```
+pub fn subdivide_strict(
+    chain: &[u8],
+    poses: &[f64],
+    joints: &[f64],
+    chord: f64,
+    axis: f64,
+    out_poses: &mut [f64],
+    out_joints: &mut [f64],
+) -> Told {
+    let entry = maztubel_subdivide_strict;
+    divided(
+        entry,
+        chain,
+        poses,
+        joints,
+        [chord, axis],
+        out_poses,
+        out_joints,
+    )
+}
+
+fn divided(
+    entry: Dividing,
+    chain: &[u8],
+    poses: &[f64],
+    joints: &[f64],
+    [chord, axis]: [f64; 2],
+    out_poses: &mut [f64],
+    out_joints: &mut [f64],
+) -> Told {
     let mut told = Told::default();
     told.number = unsafe {
-        maztubel_subdivide_path(
+        entry(
             chain.as_ptr(),
             chain.len(),
             poses.as_ptr(),
@@ -601,9 +649,47 @@ pub fn quote(
     poses_out: &mut u64,
     evaluations: &mut u64,
 ) -> Told {
+    let (entry, figures) = (maztubel_quote, [poses_out, evaluations]);
+    let scratch = [scratch_joints, scratch_tips];
+    quoted(entry, chain, poses, joints, [chord, axis], scratch, figures)
+}
+
+/// The same of the strict division, [`subdivide_strict`], of which a test counts five evaluations in place of three.
+///
+/// ```
+/// use maztubel::flat;
+/// let (mut poses, mut evaluations) = (9, 9);
+/// let told = flat::quote_strict(&[0], &[], &[], 1.0, 0.0, &mut [], &mut [], &mut poses, &mut evaluations);
+/// assert_eq!((told.number, poses, evaluations), (19, 0, 0));
+/// ```
+pub fn quote_strict(
+    chain: &[u8],
+    poses: &[f64],
+    joints: &[f64],
+    chord: f64,
+    axis: f64,
+    scratch_joints: &mut [f64],
+    scratch_tips: &mut [f64],
+    poses_out: &mut u64,
+    evaluations: &mut u64,
+) -> Told {
+    let (entry, figures) = (maztubel_quote_strict, [poses_out, evaluations]);
+    let scratch = [scratch_joints, scratch_tips];
+    quoted(entry, chain, poses, joints, [chord, axis], scratch, figures)
+}
+
+fn quoted(
+    entry: Quoting,
+    chain: &[u8],
+    poses: &[f64],
+    joints: &[f64],
+    [chord, axis]: [f64; 2],
+    [scratch_joints, scratch_tips]: [&mut [f64]; 2],
+    [poses_out, evaluations]: [&mut u64; 2],
+) -> Told {
     let mut told = Told::default();
     told.number = unsafe {
-        maztubel_quote(
+        entry(
             chain.as_ptr(),
             chain.len(),
             poses.as_ptr(),

@@ -61,9 +61,10 @@ pub use model::{Frame, Link, Machine, Mount, Solid, check_model, link_in_part, l
 pub use path::{
     Divided, MOST_INSERTED, Start, Tolerances, given_indices, solve_and_divide,
     solve_and_divide_into, solve_path, solve_path_into, subdivide_path, subdivide_path_into,
+    subdivide_strict, subdivide_strict_into,
 };
 pub use pose::{Joints, Pose};
-pub use quote::{Quotation, quote, quote_into};
+pub use quote::{Quotation, quote, quote_into, quote_strict, quote_strict_into};
 pub use quotas::{MOST_BALANCE, Quotas, SHOPS};
 pub use refusal::{Place, Reason, Refusal};
 pub use trig::{

@@ -28,7 +28,8 @@ impl Start {
     }
 }
 
-/// How far the middle between two neighbours may lie from where it would lie if they were joined by a line, each above 0.
+/// How far the middle between two neighbours, and in a strict division each quarter of the way too, may lie from where
+/// it would lie if they were joined by a line, each above 0.
 #[derive(Clone, Copy, Debug, PartialEq)]
 pub struct Tolerances {
     /// Of the tip, in mm.
@@ -81,11 +82,11 @@ impl Divided {
     }
 }
 
-/// The index of each given pose in a divided path, in order. `given` are the joint sets that the path was divided
-/// with, `divided` those of the result.
+/// The index of each given pose in a divided path, in order. `given` are the joint sets that the path was divided with,
+/// `divided` those of the result.
 ///
-/// Each given joint set is matched with the first one after the previous match that has the same five numbers. This
-/// is right for every division:
+/// Each given joint set is matched with the first one after the previous match that has the same five numbers. This is
+/// right for every division:
 ///
 /// - A midpoint lies between its ends in each of the five numbers (crates/float/proofs/Between.antt). So from one
 ///   given pose to the next, each number only rises or only falls.
@@ -95,9 +96,9 @@ impl Divided {
 ///
 /// Poses alone do not tell: an inserted pose can equal the next given one bit for bit.
 ///
-/// [`Divided::given`] is this answer. After [`subdivide_path_into`] the caller has both lists. After
-/// [`solve_and_divide_into`] the first list is what [`solve_path`] gives. If `divided` is not a division of `given`,
-/// the answer ends before the first joint set without a match.
+/// [`Divided::given`] is this answer. After [`subdivide_path_into`] and [`subdivide_strict_into`] the caller has both
+/// lists. After [`solve_and_divide_into`] the first list is what [`solve_path`] gives. If `divided` is not a division
+/// of `given`, the answer ends before the first joint set without a match.
 ///
 /// ```
 /// use maztubel::{Joints, given_indices};
@@ -210,18 +211,62 @@ pub fn subdivide_path(
     joints: &[Joints],
     tolerances: Tolerances,
 ) -> Result<Divided, Refusal> {
+    divided(flat::subdivide_path, chain, poses, joints, tolerances)
+}
+
+/// The same by the strict test: two neighbours pass only if both tolerances hold at one quarter and at three quarters
+/// of the way between them too. On a long arc the tip can be right at the middle and wrong at both quarters. What is
+/// refused is refused as by [`subdivide_path`]; where this one serves, that one does too, and inserts part of what this
+/// one inserts, in the same order.
+///
+/// ```
+/// use maztubel::{Carrier, Chain, Joints, Pose, Rotary, Tolerances, subdivide_path, subdivide_strict};
+///
+/// let chain = Chain {
+///     rotaries: vec![Rotary {
+///         letter: b'C',
+///         carrier: Carrier::Table,
+///         axis: [0.0, 0.0, 1.0],
+///         pivot: [0.0; 3],
+///         limits: None,
+///         rest: 0.0,
+///     }],
+///     spindle: [0.0, 0.0, 1.0],
+/// };
+/// // Two whole turns under a tip 20 mm beside the axis: at the middle the tip is back where it was, at the quarters opposite.
+/// let poses = [Pose { tip: [20.0, 0.0, 0.0], axis: [0.0, 0.0, 1.0] }; 2];
+/// let joints = [0.0, 720.0].map(|c| Joints { position: [20.0, 0.0, 0.0], angles: [c, 0.0] });
+/// let tolerances = Tolerances { chord: 0.5, axis: 0.5 };
+///
+/// assert_eq!(subdivide_path(&chain, &poses, &joints, tolerances)?.inserted, 0);
+/// assert!(subdivide_strict(&chain, &poses, &joints, tolerances)?.inserted > 0);
+/// # Ok::<(), maztubel::Refusal>(())
+/// ```
+pub fn subdivide_strict(
+    chain: &Chain,
+    poses: &[Pose],
+    joints: &[Joints],
+    tolerances: Tolerances,
+) -> Result<Divided, Refusal> {
+    divided(flat::subdivide_strict, chain, poses, joints, tolerances)
+}
+
+/// A flat entry that divides given poses with their joints.
+type Dividing = fn(&[u8], &[f64], &[f64], f64, f64, &mut [f64], &mut [f64]) -> Told;
+
+fn divided(
+    entry: Dividing,
+    chain: &Chain,
+    poses: &[Pose],
+    joints: &[Joints],
+    tolerances: Tolerances,
+) -> Result<Divided, Refusal> {
     // With space for every insertion, so that 28 does not occur.
     let space = poses.len() + MOST_INSERTED;
     let mut out_poses = vec![Pose::default(); space];
     let mut out_joints = vec![Joints::default(); space];
-    let inserted = subdivide_path_into(
-        chain,
-        poses,
-        joints,
-        tolerances,
-        &mut out_poses,
-        &mut out_joints,
-    )?;
+    let out = (&mut out_poses[..], &mut out_joints[..]);
+    let inserted = divided_into(entry, chain, poses, joints, tolerances, out)?;
     out_poses.truncate(poses.len() + inserted);
     out_joints.truncate(poses.len() + inserted);
     Ok(Divided {
@@ -230,6 +275,27 @@ pub fn subdivide_path(
         joints: out_joints,
         inserted,
     })
+}
+
+fn divided_into(
+    entry: Dividing,
+    chain: &Chain,
+    poses: &[Pose],
+    joints: &[Joints],
+    tolerances: Tolerances,
+    (out_poses, out_joints): (&mut [Pose], &mut [Joints]),
+) -> Result<usize, Refusal> {
+    let told = entry(
+        &chain.bytes(),
+        flat::numbers(poses),
+        flat::numbers(joints),
+        tolerances.chord,
+        tolerances.axis,
+        flat::numbers_mut(out_poses),
+        flat::numbers_mut(out_joints),
+    );
+    told.served()?;
+    Ok(told.count as usize)
 }
 
 /// As [`subdivide_path`], in two slices, with +0.0 behind the path; answers how many poses were inserted. The space is that of the
@@ -264,17 +330,38 @@ pub fn subdivide_path_into(
     out_poses: &mut [Pose],
     out_joints: &mut [Joints],
 ) -> Result<usize, Refusal> {
-    let told = flat::subdivide_path(
-        &chain.bytes(),
-        flat::numbers(poses),
-        flat::numbers(joints),
-        tolerances.chord,
-        tolerances.axis,
-        flat::numbers_mut(out_poses),
-        flat::numbers_mut(out_joints),
-    );
-    told.served()?;
-    Ok(told.count as usize)
+    let out = (out_poses, out_joints);
+    divided_into(flat::subdivide_path, chain, poses, joints, tolerances, out)
+}
+
+/// As [`subdivide_strict`], in two slices, with the space and the refusals of [`subdivide_path_into`].
+///
+/// ```
+/// use maztubel::{Chain, Joints, Pose, Tolerances, subdivide_strict_into};
+///
+/// let chain = Chain { rotaries: vec![], spindle: [0.0; 3] };
+/// let tolerances = Tolerances { chord: 0.5, axis: 0.0 };
+/// let (mut poses, mut joints) = ([Pose::default(); 3], [Joints::default(); 3]);
+/// let answer = subdivide_strict_into(&chain, &[], &[], tolerances, &mut poses, &mut joints);
+/// assert_eq!(answer.unwrap_err().number(), 19);
+/// ```
+pub fn subdivide_strict_into(
+    chain: &Chain,
+    poses: &[Pose],
+    joints: &[Joints],
+    tolerances: Tolerances,
+    out_poses: &mut [Pose],
+    out_joints: &mut [Joints],
+) -> Result<usize, Refusal> {
+    let out = (out_poses, out_joints);
+    divided_into(
+        flat::subdivide_strict,
+        chain,
+        poses,
+        joints,
+        tolerances,
+        out,
+    )
 }
 
 /// The poses solved by [`solve_path`] and then divided by [`subdivide_path`]. It makes these two calls because the

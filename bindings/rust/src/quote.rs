@@ -1,7 +1,7 @@
 //! What a division will insert, before the path exists.
 
 use crate::chain::Chain;
-use crate::flat;
+use crate::flat::{self, Told};
 use crate::path::{MOST_INSERTED, Tolerances};
 use crate::pose::{Joints, Pose};
 use crate::refusal::Refusal;
@@ -13,8 +13,8 @@ pub struct Quotation {
     pub inserted: usize,
     /// How many poses the divided path holds.
     pub poses: usize,
-    /// How many forward evaluations the tests and insertions count: three for each two poses that ever are neighbours, unless
-    /// their joints differ by no more than 1e-12, and one for each insertion.
+    /// How many forward evaluations the tests and insertions count: three for each two poses that ever are neighbours,
+    /// five in a strict division, unless their joints differ by no more than 1e-12, and one for each insertion.
     pub evaluations: u64,
 }
 
@@ -51,6 +51,62 @@ pub struct Quotation {
 /// # Ok::<(), maztubel::Refusal>(())
 /// ```
 pub fn quote(
+    chain: &Chain,
+    poses: &[Pose],
+    joints: &[Joints],
+    tolerances: Tolerances,
+) -> Result<Quotation, Refusal> {
+    with_scratch(quote_into, chain, poses, joints, tolerances)
+}
+
+/// The same of the strict division, [`subdivide_strict`](crate::subdivide_strict). A test counts five evaluations, also
+/// one that fails at the middle already.
+///
+/// ```
+/// use maztubel::{Carrier, Chain, Joints, Pose, Rotary, Tolerances, quote, quote_strict};
+///
+/// let chain = Chain {
+///     rotaries: vec![Rotary {
+///         letter: b'C',
+///         carrier: Carrier::Table,
+///         axis: [0.0, 0.0, 1.0],
+///         pivot: [0.0; 3],
+///         limits: None,
+///         rest: 0.0,
+///     }],
+///     spindle: [0.0, 0.0, 1.0],
+/// };
+/// let poses = [Pose { tip: [20.0, 0.0, 0.0], axis: [0.0, 0.0, 1.0] }; 2];
+/// let joints = [0.0, 720.0].map(|c| Joints { position: [20.0, 0.0, 0.0], angles: [c, 0.0] });
+/// let tolerances = Tolerances { chord: 0.5, axis: 0.5 };
+///
+/// let [old, strict] = [quote, quote_strict].map(|quote| quote(&chain, &poses, &joints, tolerances));
+/// let (old, strict) = (old?, strict?);
+/// assert_eq!((old.inserted, old.evaluations), (0, 3));
+/// assert_eq!(strict.evaluations, 5 + 11 * strict.inserted as u64);
+/// # Ok::<(), maztubel::Refusal>(())
+/// ```
+pub fn quote_strict(
+    chain: &Chain,
+    poses: &[Pose],
+    joints: &[Joints],
+    tolerances: Tolerances,
+) -> Result<Quotation, Refusal> {
+    with_scratch(quote_strict_into, chain, poses, joints, tolerances)
+}
+
+/// A quotation in the caller's scratch.
+type QuoteInto = fn(
+    &Chain,
+    &[Pose],
+    &[Joints],
+    Tolerances,
+    &mut [Joints],
+    &mut [[f64; 3]],
+) -> Result<Quotation, Refusal>;
+
+fn with_scratch(
+    quote_into: QuoteInto,
     chain: &Chain,
     poses: &[Pose],
     joints: &[Joints],
@@ -97,8 +153,53 @@ pub fn quote_into(
     scratch_joints: &mut [Joints],
     scratch_tips: &mut [[f64; 3]],
 ) -> Result<Quotation, Refusal> {
+    let scratch = (scratch_joints, scratch_tips);
+    quoted(flat::quote, chain, poses, joints, tolerances, scratch)
+}
+
+/// As [`quote_strict`], with the caller's scratch and the refusals of [`quote_into`].
+///
+/// ```
+/// use maztubel::{Chain, Joints, Tolerances, quote_strict_into};
+///
+/// let chain = Chain { rotaries: vec![], spindle: [0.0; 3] };
+/// let tolerances = Tolerances { chord: 0.5, axis: 0.5 };
+/// let refusal = quote_strict_into(&chain, &[], &[], tolerances, &mut [Joints::default(); 5], &mut []).unwrap_err();
+/// assert_eq!(refusal.number(), 3);
+/// ```
+pub fn quote_strict_into(
+    chain: &Chain,
+    poses: &[Pose],
+    joints: &[Joints],
+    tolerances: Tolerances,
+    scratch_joints: &mut [Joints],
+    scratch_tips: &mut [[f64; 3]],
+) -> Result<Quotation, Refusal> {
+    let scratch = (scratch_joints, scratch_tips);
+    quoted(
+        flat::quote_strict,
+        chain,
+        poses,
+        joints,
+        tolerances,
+        scratch,
+    )
+}
+
+/// A flat entry that quotes.
+type Quoting =
+    fn(&[u8], &[f64], &[f64], f64, f64, &mut [f64], &mut [f64], &mut u64, &mut u64) -> Told;
+
+fn quoted(
+    entry: Quoting,
+    chain: &Chain,
+    poses: &[Pose],
+    joints: &[Joints],
+    tolerances: Tolerances,
+    (scratch_joints, scratch_tips): (&mut [Joints], &mut [[f64; 3]]),
+) -> Result<Quotation, Refusal> {
     let (mut poses_out, mut evaluations) = (0, 0);
-    let told = flat::quote(
+    let told = entry(
         &chain.bytes(),
         flat::numbers(poses),
         flat::numbers(joints),

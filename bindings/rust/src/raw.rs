@@ -1,6 +1,46 @@
 //! The entries as include/maztubel.h declares them, for those who lend memory of their own making. Each is total: what it is
 //! lent has to be there, a pointer with its length, and nothing else is asked. What each answers stands in that file.
 
+/// An entry that divides given poses with their joints: by the test in the middle, or by the strict one.
+pub type Dividing = unsafe extern "C" fn(
+    *const u8,
+    usize,
+    *const f64,
+    usize,
+    *const f64,
+    usize,
+    f64,
+    f64,
+    *mut f64,
+    usize,
+    *mut f64,
+    usize,
+    &mut u64,
+    &mut u64,
+    &mut u8,
+) -> u32;
+
+/// An entry that quotes such a division.
+pub type Quoting = unsafe extern "C" fn(
+    *const u8,
+    usize,
+    *const f64,
+    usize,
+    *const f64,
+    usize,
+    f64,
+    f64,
+    *mut f64,
+    usize,
+    *mut f64,
+    usize,
+    &mut u64,
+    &mut u64,
+    &mut u64,
+    &mut u64,
+    &mut u8,
+) -> u32;
+
 unsafe extern "C" {
     pub safe fn maztubel_sine(x: f64, answer: &mut f64) -> u32;
     pub safe fn maztubel_cosine(x: f64, answer: &mut f64) -> u32;
@@ -164,6 +204,23 @@ unsafe extern "C" {
         at: &mut u64,
         letter: &mut u8,
     ) -> u32;
+    pub fn maztubel_subdivide_strict(
+        chain: *const u8,
+        chain_length: usize,
+        poses: *const f64,
+        poses_length: usize,
+        joints: *const f64,
+        joints_length: usize,
+        chord: f64,
+        axis: f64,
+        out_poses: *mut f64,
+        out_poses_length: usize,
+        out_joints: *mut f64,
+        out_joints_length: usize,
+        inserted: &mut u64,
+        at: &mut u64,
+        letter: &mut u8,
+    ) -> u32;
     pub fn maztubel_solve_and_divide(
         chain: *const u8,
         chain_length: usize,
@@ -183,6 +240,25 @@ unsafe extern "C" {
         letter: &mut u8,
     ) -> u32;
     pub fn maztubel_quote(
+        chain: *const u8,
+        chain_length: usize,
+        poses: *const f64,
+        poses_length: usize,
+        joints: *const f64,
+        joints_length: usize,
+        chord: f64,
+        axis: f64,
+        scratch_joints: *mut f64,
+        scratch_joints_length: usize,
+        scratch_tips: *mut f64,
+        scratch_tips_length: usize,
+        inserted: &mut u64,
+        poses_out: &mut u64,
+        evaluations: &mut u64,
+        at: &mut u64,
+        letter: &mut u8,
+    ) -> u32;
+    pub fn maztubel_quote_strict(
         chain: *const u8,
         chain_length: usize,
         poses: *const f64,

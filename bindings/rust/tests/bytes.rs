@@ -39,7 +39,7 @@ const NAME: &[u8] = b"mill";
 type OfAChain = (&'static str, fn(&[u8]) -> Told);
 
 /// Every entry that reads a chain, the rest sound.
-const OF_A_CHAIN: [OfAChain; 16] = [
+const OF_A_CHAIN: [OfAChain; 18] = [
     ("check_chain", flat::check_chain),
     ("forward", |chain| {
         flat::forward(chain, &JOINTS, 10.0, &mut [0.0; 6])
@@ -69,18 +69,12 @@ const OF_A_CHAIN: [OfAChain; 16] = [
         let (poses, joints) = (&mut [0.0; 6], &mut [0.0; 5]);
         flat::subdivide_path(chain, &POSE, &JOINTS, 1.0, 1.0, poses, joints)
     }),
-    ("quote", |chain| {
-        let mut scratch = vec![9.0; 80_000];
-        let (joints, tips) = scratch.split_at_mut(50_000);
-        let [mut poses, mut evaluations] = [9; 2];
-        let (out, count) = (&mut poses, &mut evaluations);
-        let told = flat::quote(chain, &POSE, &JOINTS, 1.0, 1.0, joints, tips, out, count);
-        assert_eq!(poses, u64::from(told.number == 0));
-        assert_eq!(evaluations, 0);
-        let after = if told.number == 0 { 0.0 } else { 9.0 };
-        assert!(scratch.iter().all(|number| *number == after));
-        told
+    ("subdivide_strict", |chain| {
+        let (poses, joints) = (&mut [0.0; 6], &mut [0.0; 5]);
+        flat::subdivide_strict(chain, &POSE, &JOINTS, 1.0, 1.0, poses, joints)
     }),
+    ("quote", |chain| quoted(flat::quote, chain)),
+    ("quote_strict", |chain| quoted(flat::quote_strict, chain)),
     ("divide_for", |chain| {
         let (poses, joints) = (&mut [0.0; 6], &mut [0.0; 5]);
         let quota = &mut [0; 32];
@@ -105,6 +99,20 @@ const OF_A_CHAIN: [OfAChain; 16] = [
     }),
     ("links_meet", |chain| asked_to_meet(chain, &[], &JOINTS)),
 ];
+
+/// Of one pose, whose figures are known; the scratch is kept on a refusal, and else cleared.
+fn quoted(quote: Quoting, chain: &[u8]) -> Told {
+    let mut scratch = vec![9.0; 80_000];
+    let (joints, tips) = scratch.split_at_mut(50_000);
+    let [mut poses, mut evaluations] = [9; 2];
+    let (out, count) = (&mut poses, &mut evaluations);
+    let told = quote(chain, &POSE, &JOINTS, 1.0, 1.0, joints, tips, out, count);
+    assert_eq!(poses, u64::from(told.number == 0));
+    assert_eq!(evaluations, 0);
+    let after = if told.number == 0 { 0.0 } else { 9.0 };
+    assert!(scratch.iter().all(|number| *number == after));
+    told
+}
 
 /// The four lent numbers are 0 where none meet, and kept on a refusal.
 fn asked_to_meet(chain: &[u8], model: &[u8], joints: &[f64]) -> Told {

@@ -244,56 +244,49 @@ fn of_solve_path() {
     );
 }
 
-#[test]
-fn of_subdivide_path() {
-    let chain = tables().bytes();
-    let read = [
+/// Two poses with their joints, and whether the lengths of poses, joints and two buffers of such records are sound.
+fn two_given() -> [Vec<f64>; 2] {
+    [
         pose_numbers(&arc(2)),
         vec![0.0, 0.0, 50.0, 0.0, 0.0, 1.0, 0.0, 50.0, 10.0, 0.0],
-    ];
-    let whole = |l: &[usize]| {
-        l[0].is_multiple_of(6)
-            && l[1].is_multiple_of(5)
-            && l[0] / 6 == l[1] / 5
-            && l[2].is_multiple_of(6)
-            && l[3].is_multiple_of(5)
-    };
+    ]
+}
+
+fn sound(l: &[usize], records: [usize; 2]) -> bool {
+    l[0].is_multiple_of(6)
+        && l[1].is_multiple_of(5)
+        && l[0] / 6 == l[1] / 5
+        && l[2].is_multiple_of(records[0])
+        && l[3].is_multiple_of(records[1])
+}
+
+fn of_dividing(divide: Dividing) {
+    let chain = tables().bytes();
     let ask: Ask = &|r, w| {
         let [poses, joints] = w else { unreachable!() };
-        flat::subdivide_path(&chain, r[0], r[1], 0.01, 1.0, poses, joints)
+        divide(&chain, r[0], r[1], 0.01, 1.0, poses, joints)
     };
-    every_length(&read, &[90, 75], ask, &whole);
+    every_length(&two_given(), &[90, 75], ask, &|l| sound(l, [6, 5]));
+}
+
+#[test]
+fn of_subdivide_path() {
+    of_dividing(flat::subdivide_path);
+}
+
+#[test]
+fn of_subdivide_strict() {
+    of_dividing(flat::subdivide_strict);
 }
 
 /// Scratches of so few numbers are 28 once their records are whole, and then +0.0.
-#[test]
-fn of_quote() {
+fn of_quoting(quote: Quoting) {
     let chain = tables().bytes();
-    let read = [
-        pose_numbers(&arc(2)),
-        vec![0.0, 0.0, 50.0, 0.0, 0.0, 1.0, 0.0, 50.0, 10.0, 0.0],
-    ];
-    let whole = |l: &[usize]| {
-        l[0].is_multiple_of(6)
-            && l[1].is_multiple_of(5)
-            && l[0] / 6 == l[1] / 5
-            && l[2].is_multiple_of(5)
-            && l[3].is_multiple_of(3)
-    };
     let ask: Ask = &|r, w| {
         let [joints, tips] = w else { unreachable!() };
         let (mut poses, mut evaluations) = (9, 9);
-        let told = flat::quote(
-            &chain,
-            r[0],
-            r[1],
-            0.01,
-            1.0,
-            joints,
-            tips,
-            &mut poses,
-            &mut evaluations,
-        );
+        let (out, count) = (&mut poses, &mut evaluations);
+        let told = quote(&chain, r[0], r[1], 0.01, 1.0, joints, tips, out, count);
         assert!(matches!(told.number, 20 | 28));
         assert_eq!((told.count, poses, evaluations), (0, 0, 0));
         let after = if told.number == 28 { 0.0 } else { BEFORE };
@@ -301,7 +294,17 @@ fn of_quote() {
         assert!(scratch.all(|number| number.to_bits() == after.to_bits()));
         told
     };
-    every_length(&read, &[25, 15], ask, &whole);
+    every_length(&two_given(), &[25, 15], ask, &|l| sound(l, [5, 3]));
+}
+
+#[test]
+fn of_quote() {
+    of_quoting(flat::quote);
+}
+
+#[test]
+fn of_quote_strict() {
+    of_quoting(flat::quote_strict);
 }
 
 #[test]

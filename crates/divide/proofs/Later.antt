@@ -1,4 +1,5 @@
--- What a division promises of later ones, in the two lent outputs: R-12's two sentences, in every way out of the two
+-- What a division promises of later ones, in the two lent outputs: R-12's two
+-- sentences and R-14's, in every way out of the two
 -- calls.
 use Prim.Native.Nat.{ℕ, ◌*◌, ◌≤◌}
 use native.Mathlib.Omega.{arith}
@@ -24,20 +25,21 @@ use Rattle.halving.specs.Halving as Halving
 use Rattle.machine.specs.Dividing.{divided_in, poses_over, joints_over}
 use Rattle.middle.specs.declared.Item.{Item}
 use Rattle.middle.specs.declared.Tolerances.{Tolerances}
+use Rattle.middle.specs.Testing.{plain}
 use Rattle.turn.specs.Items.{pose_numbers, items_in, space_in}
 use Rattle.looser.proofs.Reached.{reached_finite}
 use Rattle.divide.specs.declared.DivisionError.{DivisionError}
 use Rattle.divide.specs.Checking.{FitUpTo, division_check, tip_within}
 use Rattle.divide.specs.Subdividing.{Halved, given, division_within, subdivide_path, Division, ended}
-use Rattle.divide.specs.Looser.{NeverDearer, path_length, Later}
+use Rattle.divide.specs.Looser.{NotBelow, NeverDearer, path_length, Later}
 use Rattle.divide.proofs.Accepted.{Accepted, accepted_parts, accepted_result}
-use Rattle.divide.proofs.Dearer.{never_dearer}
+use Rattle.divide.proofs.Dearer.{plain_not_below, never_dearer}
 use Rattle.divide.proofs.Again.{divided_again, long_poses, long_joints, poses_back}
 use Rattle.divide.proofs.PriceLent.{is_ended, done_by, items_left}
 
 pub refused_later : {k : Kinematics} {tol : Tolerances} {lent solved : List Float} {roomPoses roomJoints : ℕ} {said : Division} {poses joints : List Float} {r : Refusal} → said ≡ Err (DivisionError.Refused r)
     → Later k tol lent solved roomPoses roomJoints said poses joints
-refused_later e = record { looser = λ n w. absurd (false≢true (ap is_ended (sym e ∙ w))); again = λ n w. absurd (false≢true (ap is_ended (sym e ∙ w))) }
+refused_later e = record { looser = λ n w. absurd (false≢true (ap is_ended (sym e ∙ w))); old = λ n w. absurd (false≢true (ap is_ended (sym e ∙ w))); again = λ n w. absurd (false≢true (ap is_ended (sym e ∙ w))) }
 
 front : (m n w : ℕ) (l out : List Float) → out ≡ padded m nought l → length l ≡ n * w → take (n * w) out ≡ l
 front m n w l out e h = rw (e, ← h) (take_padded m nought l (length l) (omega arith) ∙ take_all (length l) l (omega arith))
@@ -69,6 +71,15 @@ module _ (k : Kinematics) (tol : Tolerances) (lent solved p₀ j₀ : List Float
     joints_there : take (path_length lent solved n * 5) joints ≡ flat joint_numbers (map (λ (t : Item). t.joints) l)
     joints_there = front (length j₀) (path_length lent solved n) 5 _ joints (rw f at v) (long_joints l ∙ ap (λ (i : ℕ). i * 5) counted)
 
+    dearer_there : (wider : Tolerances) → NotBelow tol wider
+        → NeverDearer k tol wider lent solved (length p₀) (length j₀) n (items_in (path_length lent solved n) poses joints)
+    dearer_there wider h =
+        subst (NeverDearer k tol wider lent solved (length p₀) (length j₀) n) (sym items_there)
+        (never_dearer k tol wider h lent solved (length p₀) (length j₀) n l accepted)
+
+    old_below : NotBelow tol (plain tol)
+    old_below = let c = parts.checks in plain_not_below tol c.chord_is c.axis_is
+
     again_there : path_length lent solved n ≤ 100000 → all tip_within (poses_in (take (path_length lent solved n * 6) poses)) ≡ true
         → (a b : ℕ) → whole_records a b ≡ true → path_length lent solved n ≤ space_in a b
         → subdivide_path k tol (take (path_length lent solved n * 6) poses) (take (path_length lent solved n * 5) joints) a b
@@ -82,7 +93,10 @@ module _ (k : Kinematics) (tol : Tolerances) (lent solved p₀ j₀ : List Float
   ended_later e = record {
     looser = λ n w wider h.
         let (l, f) = done_by answer n (sym e ∙ w) in
-        subst (NeverDearer k tol wider lent solved (length p₀) (length j₀) n) (sym (items_there n l f)) (never_dearer k tol wider h lent solved (length p₀) (length j₀) n l (accepted n l f));
+        dearer_there n l f wider h;
+    old = λ n w.
+        let (l, f) = done_by answer n (sym e ∙ w) in
+        dearer_there n l f (plain tol) (old_below n l f);
     again = λ n w.
         let (l, f) = done_by answer n (sym e ∙ w) in
         again_there n l f;

@@ -19,3 +19,4 @@ pub mod Parallel
 pub mod Examples
 pub mod NeverFallback
 pub mod WorkedPath
+pub mod Waist

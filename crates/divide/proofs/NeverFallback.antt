@@ -1,16 +1,18 @@
--- Division takes no fallback. Every joint set that it comes to, given or inserted, is finite, within 10,000,000 mm and
--- within 36,000 degrees; so at every one, and at the middle of every two, `forward` itself answers, with the pose that
--- the division takes (`division_plain`): its turns are made of a sine and a cosine, and the axis that it reaches has a
--- direction. And the angle that is compared with the axis tolerance, and the axis between two that it is taken from,
--- are made of an arctangent, an arccosine and sines that are all served.
+-- Division takes no fallback, by the Rust's test or by the strict one. Every joint set that it comes to, given or
+-- inserted, is finite, within 10,000,000 mm and within 36,000 degrees; so at every one, and at the middle and both
+-- quarters of every two, `forward` itself answers, with the pose that the division takes (`division_plain`): its turns
+-- are made of a sine and a cosine, and the axis that it reaches has a direction. And the angle that is compared with
+-- the axis tolerance, and the axis between two that it is taken from, are made of an arctangent, an arccosine and sines
+-- that are all served.
 use mathlib.Core.Path.{◌≡◌, refl, sym, ap, ◌∙◌, subst}
 use mathlib.Core.Bool.{true, false, ◌&&◌, and-eq-true_iff}
 use mathlib.Core.List.{List, [], ◌∷◌, Memᴰ}
-use Prim.Native.Nat.{ℕ, zero, suc, ◌+◌, ◌/◌, ◌^◌}
+use Prim.Native.Nat.{ℕ, zero, suc, ◌+◌, ◌*◌, ◌/◌, ◌^◌}
 use lib.Dec.{T, eqb, leb, eqb→eq, lit≤}
 use lib.ListN.{length, get_or, drop}
 use lib.Seq.{get_or-drop}
 use lib.Ieee.{Float, nan, binary64, le, lt, eq, of_bits, fits}
+use lib.Ieee.Bits.{of_bits-fits}
 use Rattle.std.specs.Prelude.{Ok}
 use Rattle.lists.specs.Each.{Each}
 use Rattle.lists.specs.Rows.{rows}
@@ -18,9 +20,10 @@ use Rattle.lists.specs.Search.{all}
 use Rattle.lists.proofs.Each.{each_passes, each_both}
 use Rattle.float.specs.Units.{U}
 use Rattle.float.specs.Helpers.{nought, size_of}
+use Rattle.float.proofs.Between.{Portion, half_portion, quarter_portion, three_quarters_portion}
 use Rattle.float.proofs.UpTo.{UpTo}
 use Rattle.refusal.specs.declared.Cause.{Cause}
-use Rattle.geometry.specs.Slerp.{slerp_axis}
+use Rattle.geometry.specs.Slerp.{slerp_axis, angle_between_deg}
 use Rattle.geometry.proofs.AngleBetween.{angle_between}
 use Rattle.geometry.proofs.FitVectors.{FitVec, unit_or_fits}
 use Rattle.geometry.proofs.PlainSlerp.{plain_slerp, slerp_plain, slerp_fits}
@@ -39,11 +42,11 @@ use Rattle.halving.specs.Halving.{Steps}
 use Rattle.halving.proofs.Steps.{steps_all}
 use Rattle.middle.specs.declared.Item.{Item}
 use Rattle.middle.specs.declared.Tolerances.{Tolerances}
-use Rattle.middle.specs.Testing.{half, lerp_joints, pose_of, midpoint, axis_gap, divides}
+use Rattle.middle.specs.Testing.{half, quarter, three_quarters, joints_between, pose_of, midpoint, axis_gap, divides}
 use Rattle.turn.specs.Items.{joints_from, item, items_in}
 use Rattle.divide.specs.Checking.{tolerance_good, all_finite, tip_within, joint_sets_in, division_sizes, four_whole, checks_in_order, division_check}
 use Rattle.divide.specs.Subdividing.{given}
-use Rattle.divide.proofs.PriceSound.{Sized, sized_mid, sizes_finite}
+use Rattle.divide.proofs.PriceSound.{half_fits, Sized, sized_way, sized_mid, sizes_finite}
 use Rattle.divide.proofs.PricePath.{paired_given}
 
 -- ---- one pose
@@ -77,7 +80,22 @@ half_up_to : UpTo 1 half
 unfolding of_bits U
 half_up_to = record { s = false; v = 2 ^ 1073; is = (refl, refl); most = lit≤ tt }
 
--- ---- two poses: both, their midpoint, and the angle that is compared with the axis tolerance
+quarter_up_to : UpTo 1 quarter
+unfolding of_bits U
+quarter_up_to = record { s = false; v = 2 ^ 1072; is = (refl, refl); most = lit≤ tt }
+
+three_quarters_up_to : UpTo 1 three_quarters
+unfolding of_bits U
+three_quarters_up_to = record { s = false; v = 3 * 2 ^ 1072; is = (refl, refl); most = lit≤ tt }
+
+-- ---- at a portion t of the way between two poses: the pose there, and the angle that is compared with the axis
+-- tolerance
+pub record PortionPlain (k : Kinematics) (x y : Item) (t : Float) : Type 0 where
+  pub pose : PosePlain k (joints_between t x.joints y.joints)
+  pub gap : angle_between_deg (pose_of (prepared k) (joints_between t x.joints y.joints)).axis (slerp_axis (pose_of (prepared k) x.joints).axis (pose_of (prepared k) y.joints).axis t)
+      ≡ plain_angle_between (pose_of (prepared k) (joints_between t x.joints y.joints)).axis (plain_slerp (pose_of (prepared k) x.joints).axis (pose_of (prepared k) y.joints).axis t)
+
+-- ---- two poses: both, their midpoint with the angle at it, and both quarters
 pub record SegmentPlain (k : Kinematics) (x y : Item) : Type 0 where
   pub left : PosePlain k x.joints
   pub right : PosePlain k y.joints
@@ -85,29 +103,37 @@ pub record SegmentPlain (k : Kinematics) (x y : Item) : Type 0 where
   pub taken : (midpoint (prepared k) x y).pose ≡ pose_of (prepared k) (midpoint (prepared k) x y).joints
   pub gap : axis_gap (pose_of (prepared k) x.joints).axis (pose_of (prepared k) y.joints).axis (midpoint (prepared k) x y)
       ≡ plain_angle_between (midpoint (prepared k) x y).pose.axis (plain_slerp (pose_of (prepared k) x.joints).axis (pose_of (prepared k) y.joints).axis half)
+  pub first_quarter : PortionPlain k x y quarter
+  pub last_quarter : PortionPlain k x y three_quarters
 
 module _ (k : Kinematics) (F : FitAxes k) (passed : chain_check k ≡ Ok tt) (pivots : chain_within k ≡ true) (x y : Item) where
-  gap_plain : axis_gap (pose_of (prepared k) x.joints).axis (pose_of (prepared k) y.joints).axis (midpoint (prepared k) x y)
-      ≡ plain_angle_between (midpoint (prepared k) x y).pose.axis (plain_slerp (pose_of (prepared k) x.joints).axis (pose_of (prepared k) y.joints).axis half)
-  unfolding axis_gap plain_angle_between midpoint
-  gap_plain =
-      let middle = (pose_of (prepared k) (lerp_joints x.joints y.joints)).axis in
+  portion_plain : (t : Float) → T (fits binary64 t) → Portion t → UpTo 1 t → Sized x.joints → Sized y.joints → PortionPlain k x y t
+  unfolding plain_angle_between
+  portion_plain t ft pt B X Y =
+      let there = (pose_of (prepared k) (joints_between t x.joints y.joints)).axis in
       let from = (pose_of (prepared k) x.joints).axis in
       let to = (pose_of (prepared k) y.joints).axis in
-      let A = axis_fits k F passed pivots x.joints in
-      let B = axis_fits k F passed pivots y.joints in
-      angle_between middle (slerp_axis from to half) (axis_fits k F passed pivots (lerp_joints x.joints y.joints)) (slerp_fits from to half half_up_to A B)
-      ∙ ap (plain_angle_between middle) (slerp_plain half half_up_to from to A B)
+      let G = axis_fits k F passed pivots x.joints in
+      let H = axis_fits k F passed pivots y.joints in
+      record {
+        pose = pose_plain k F passed pivots (joints_between t x.joints y.joints) (sized_way t ft pt x.joints y.joints X Y).sizes;
+        gap = angle_between there (slerp_axis from to t) (axis_fits k F passed pivots (joints_between t x.joints y.joints)) (slerp_fits from to t B G H)
+            ∙ ap (plain_angle_between there) (slerp_plain t B from to G H);
+      }
 
   pub segment_plain : Sized x.joints → Sized y.joints → SegmentPlain k x y
-  unfolding midpoint
-  segment_plain A B = record {
-    left = pose_plain k F passed pivots x.joints A.sizes;
-    right = pose_plain k F passed pivots y.joints B.sizes;
-    middle = pose_plain k F passed pivots (lerp_joints x.joints y.joints) (sized_mid x.joints y.joints A B).sizes;
-    taken = refl;
-    gap = gap_plain;
-  }
+  unfolding midpoint axis_gap
+  segment_plain A B =
+      let at_half = portion_plain half half_fits half_portion half_up_to A B in
+      record {
+        left = pose_plain k F passed pivots x.joints A.sizes;
+        right = pose_plain k F passed pivots y.joints B.sizes;
+        middle = at_half.pose;
+        taken = refl;
+        gap = at_half.gap;
+        first_quarter = portion_plain quarter (of_bits-fits binary64 0x3fd0_0000_0000_0000) quarter_portion quarter_up_to A B;
+        last_quarter = portion_plain three_quarters (of_bits-fits binary64 0x3fe8_0000_0000_0000) three_quarters_portion three_quarters_up_to A B;
+      }
 
 -- ---- the given joint sets, read from lent numbers
 abbrev AllFit : List Float → Type 0

@@ -31,7 +31,7 @@ use Rattle.halving.specs.Halving.{Done}
 use Rattle.halving.specs.Inserting.{Inserts}
 use Rattle.middle.specs.declared.Item.{Item}
 use Rattle.middle.specs.declared.Tolerances.{Tolerances}
-use Rattle.middle.specs.Testing.{least, midpoint, segment_within, divides}
+use Rattle.middle.specs.Testing.{least, midpoint, segment_within, divides, plain}
 use Rattle.turn.specs.Items.{joints_from, item, items_in, space_in}
 use Rattle.turn.proofs.Stored.{joints_codec}
 use Rattle.divide.specs.declared.DivisionError.{DivisionError}
@@ -67,12 +67,13 @@ pub later_says : {k : Kinematics} {tol : Tolerances} {lent solved : List Float} 
     → Later k tol lent solved a b answer poses joints
     → ((n : ℕ) → answer ≡ Ok n → (wider : Tolerances) → NotBelow tol wider
     → NeverDearer k tol wider lent solved a b n (items_in (length (given lent solved) + n) poses joints))
+    × ((n : ℕ) → answer ≡ Ok n → NeverDearer k tol (plain tol) lent solved a b n (items_in (length (given lent solved) + n) poses joints))
     × ((n : ℕ) → answer ≡ Ok n → length (given lent solved) + n ≤ 100000
     → all tip_within (poses_in (take ((length (given lent solved) + n) * 6) poses)) ≡ true
     → (c d : ℕ) → whole_records c d ≡ true → length (given lent solved) + n ≤ space_in c d
     → subdivide_path k tol (take ((length (given lent solved) + n) * 6) poses) (take ((length (given lent solved) + n) * 5) joints) c d
     ≡ Halved (Done 0 (items_in (length (given lent solved) + n) poses joints)))
-later_says w = (w.looser, w.again)
+later_says w = (w.looser, w.old, w.again)
 
 module _ (k : Kinematics) (lent : List Float) (start : Option Joints) (cone : Float) (tol : Tolerances) (answer : Division) (poses₀ joints₀ poses joints : List Float) where
   abbrev solved : PathAnswer

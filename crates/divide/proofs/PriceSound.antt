@@ -1,6 +1,7 @@
 -- What holds of given joints, and of the midpoint of two of which it holds: so it holds of all that are inserted. A
 -- midpoint lies between its ends, so limits and sizes stay. `Limited` is of solved joints, and of their angles alone;
--- `Sized` is of any joints that pass division's checks, and of all five numbers.
+-- `Sized` is of any joints that pass division's checks, and of all five numbers, and holds at both quarters of the way
+-- too, which a strict test asks at.
 use mathlib.Core.Path.{◌≡◌, refl}
 use mathlib.Core.Bool.{true, ◌&&◌}
 use lib.Dec.{T}
@@ -9,7 +10,7 @@ use lib.Ieee.{Float, binary64, le, fits, of_bits}
 use lib.Ieee.Bits.{of_bits-fits}
 use lib.Ieee.Fits.{add-fits}
 use Rattle.std.specs.Prelude.{None, Option, Some}
-use Rattle.float.proofs.Between.{big, Tame, tame_of, half_portion, way_between, way_size, ten_million_big}
+use Rattle.float.proofs.Between.{big, Tame, tame_of, Portion, half_portion, way_between, way_size, ten_million_big}
 use Rattle.float.proofs.Sizes.{size_le_parts}
 use Rattle.geometry.specs.declared.Vec3.{Vec3}
 use Rattle.geometry.specs.Vector.{lerp, lerp_vec}
@@ -23,27 +24,34 @@ use Rattle.path.specs.Posing.{bounds_of, turned_within}
 use Rattle.path.specs.Promise.{Served}
 use Rattle.path.specs.declared.Bound.{Bound}
 use Rattle.path.specs.declared.Bounds.{Bounds}
-use Rattle.middle.specs.Testing.{half, lerp_joints}
+use Rattle.middle.specs.Testing.{half, joints_between, lerp_joints}
 
 -- ---- one number
-half_fits : T (fits binary64 half)
+pub half_fits : T (fits binary64 half)
 half_fits = of_bits-fits binary64 0x3fe0_0000_0000_0000
 
 pub turned_big : le most_turned big ≡ true
 unfolding big of_bits Ieee.le Ieee.lt Ieee.eq
 turned_big = refl
 
-pub mid_fits : (a b : Float) → T (fits binary64 (lerp a b half))
-mid_fits a b = add-fits binary64 a _
+way_fits : (t a b : Float) → T (fits binary64 (lerp a b t))
+way_fits t a b = add-fits binary64 a _
+
+mid_fits : (a b : Float) → T (fits binary64 (lerp a b half))
+mid_fits = way_fits half
 
 turned_tame : (x : Float) → within x most_turned ≡ true → Tame x
 unfolding within
 turned_tame x h = let p = size_le_parts x most_turned h in tame_of most_turned x turned_big p.0 p.1
 
+way_within : (t : Float) → T (fits binary64 t) → Portion t → (a b : Float) → T (fits binary64 a) → T (fits binary64 b)
+    → (c : Float) → le c big ≡ true → within a c ≡ true → within b c ≡ true → within (lerp a b t) c ≡ true
+unfolding within
+way_within t ft pt a b fa fb c h x y = way_size a b t c fa fb ft h pt x y
+
 module _ (a b : Float) (fa : T (fits binary64 a)) (fb : T (fits binary64 b)) where
-  pub mid_within : (c : Float) → le c big ≡ true → within a c ≡ true → within b c ≡ true → within (lerp a b half) c ≡ true
-  unfolding within
-  mid_within c h x y = way_size a b half c fa fb half_fits h half_portion x y
+  mid_within : (c : Float) → le c big ≡ true → within a c ≡ true → within b c ≡ true → within (lerp a b half) c ≡ true
+  mid_within = way_within half half_fits half_portion a b fa fb
 
   mid_permitted : (t : Option RotaryLimits) → within a most_turned ≡ true → within b most_turned ≡ true → permits t a ≡ true → permits t b ≡ true → permits t (lerp a b half) ≡ true
   unfolding contains
@@ -55,18 +63,19 @@ module _ (a b : Float) (fa : T (fits binary64 a)) (fb : T (fits binary64 b)) whe
   mid_permitted None x y g h = within_finite most_turned over_turned (lerp a b half) (mid_within most_turned turned_big x y)
 
 -- ---- three numbers
-pub mid_all_within : (c : Float) → le c big ≡ true → (u v : Vec3) → T (fits binary64 u.x) → T (fits binary64 u.y) → T (fits binary64 u.z) → T (fits binary64 v.x) → T (fits binary64 v.y) → T (fits binary64 v.z)
-    → all_within u c ≡ true → all_within v c ≡ true → all_within (lerp_vec u v half) c ≡ true
+way_all_within : (at : Float) → T (fits binary64 at) → Portion at → (c : Float) → le c big ≡ true → (u v : Vec3)
+    → T (fits binary64 u.x) → T (fits binary64 u.y) → T (fits binary64 u.z) → T (fits binary64 v.x) → T (fits binary64 v.y) → T (fits binary64 v.z)
+    → all_within u c ≡ true → all_within v c ≡ true → all_within (lerp_vec u v at) c ≡ true
 unfolding all_within lerp_vec
-mid_all_within c h u v ux uy uz vx vy vz g k =
+way_all_within at fa pa c h u v ux uy uz vx vy vz g k =
     let p = both (within u.x c && within u.y c) (within u.z c) g in
     let q = both (within u.x c) (within u.y c) p.0 in
     let s = both (within v.x c && within v.y c) (within v.z c) k in
     let t = both (within v.x c) (within v.y c) s.0 in
     rw (
-      mid_within u.x v.x ux vx c h q.0 t.0,
-      mid_within u.y v.y uy vy c h q.1 t.1,
-      mid_within u.z v.z uz vz c h p.1 s.1,
+      way_within at fa pa u.x v.x ux vx c h q.0 t.0,
+      way_within at fa pa u.y v.y uy vy c h q.1 t.1,
+      way_within at fa pa u.z v.z uz vz c h p.1 s.1,
     )
 
 -- ---- the limits: the second angle of a chain of one is not looked at
@@ -95,11 +104,11 @@ served_limited k j s f g = record { limits = s.limits; turns = s.turns; fits_a0 
 
 module _ (k : Kinematics) (a b : Joints) (A : Limited k a) (B : Limited k b) where
   first_mid : (c : Bounds) → first_inside c a ≡ true → first_inside c b ≡ true → first_inside c (lerp_joints a b) ≡ true
-  unfolding first_inside lerp_joints
+  unfolding first_inside joints_between
   first_mid c g h = mid_permitted a.a0 b.a0 A.fits_a0 B.fits_a0 c.first.limits (turned_parts a A.turns).0 (turned_parts b B.turns).0 g h
 
   second_inside_between : (c : Bounds) → second_inside c a ≡ true → second_inside c b ≡ true → second_inside c (lerp_joints a b) ≡ true
-  unfolding second_inside lerp_joints
+  unfolding second_inside joints_between
   second_inside_between c g h =
       second_mid c.second a.a1 b.a1 (lerp a.a1 b.a1 half)
       (λ t. mid_permitted a.a1 b.a1 A.fits_a1 B.fits_a1 t (turned_parts a A.turns).1 (turned_parts b B.turns).1) g h
@@ -112,7 +121,7 @@ module _ (k : Kinematics) (a b : Joints) (A : Limited k a) (B : Limited k b) whe
       rw (first_mid c p.0 q.0, second_inside_between c p.1 q.1)
 
   turned_mid : turned_within (lerp_joints a b) ≡ true
-  unfolding turned_within lerp_joints
+  unfolding turned_within joints_between
   turned_mid =
       let p = turned_parts a A.turns in
       let q = turned_parts b B.turns in
@@ -122,7 +131,7 @@ module _ (k : Kinematics) (a b : Joints) (A : Limited k a) (B : Limited k b) whe
       )
 
   pub limited_mid : Limited k (lerp_joints a b)
-  unfolding lerp_joints
+  unfolding joints_between
   limited_mid = record {
     limits = inside_mid (bounds_of k) A.limits B.limits;
     turns = turned_mid;
@@ -157,25 +166,28 @@ sizes_finite j h =
       within_finite most_turned over_turned j.a1 p.1.1,
     )
 
-module _ (a b : Joints) (A : Sized a) (B : Sized b) where
-  mid_sizes : joints_within (lerp_joints a b) ≡ true
-  unfolding joints_within lerp_joints
-  mid_sizes =
+module _ (t : Float) (ft : T (fits binary64 t)) (pt : Portion t) (a b : Joints) (A : Sized a) (B : Sized b) where
+  way_sizes : joints_within (joints_between t a b) ≡ true
+  unfolding joints_within joints_between
+  way_sizes =
       let p = size_parts a A.sizes in
       let q = size_parts b B.sizes in
       rw (
-        mid_all_within farthest ten_million_big a.xyz b.xyz A.fits_x A.fits_y A.fits_z B.fits_x B.fits_y B.fits_z p.0 q.0,
-        mid_within a.a0 b.a0 A.fits_a0 B.fits_a0 most_turned turned_big p.1.0 q.1.0,
-        mid_within a.a1 b.a1 A.fits_a1 B.fits_a1 most_turned turned_big p.1.1 q.1.1,
+        way_all_within t ft pt farthest ten_million_big a.xyz b.xyz A.fits_x A.fits_y A.fits_z B.fits_x B.fits_y B.fits_z p.0 q.0,
+        way_within t ft pt a.a0 b.a0 A.fits_a0 B.fits_a0 most_turned turned_big p.1.0 q.1.0,
+        way_within t ft pt a.a1 b.a1 A.fits_a1 B.fits_a1 most_turned turned_big p.1.1 q.1.1,
       )
 
-  pub sized_mid : Sized (lerp_joints a b)
-  unfolding lerp_joints lerp_vec
-  sized_mid = record {
-    sizes = mid_sizes;
-    fits_x = mid_fits a.xyz.x b.xyz.x;
-    fits_y = mid_fits a.xyz.y b.xyz.y;
-    fits_z = mid_fits a.xyz.z b.xyz.z;
-    fits_a0 = mid_fits a.a0 b.a0;
-    fits_a1 = mid_fits a.a1 b.a1;
+  pub sized_way : Sized (joints_between t a b)
+  unfolding joints_between lerp_vec
+  sized_way = record {
+    sizes = way_sizes;
+    fits_x = way_fits t a.xyz.x b.xyz.x;
+    fits_y = way_fits t a.xyz.y b.xyz.y;
+    fits_z = way_fits t a.xyz.z b.xyz.z;
+    fits_a0 = way_fits t a.a0 b.a0;
+    fits_a1 = way_fits t a.a1 b.a1;
   }
+
+pub sized_mid : (a b : Joints) → Sized a → Sized b → Sized (lerp_joints a b)
+sized_mid = sized_way half half_fits half_portion

@@ -2,6 +2,7 @@
 -- table C that is far from its pivot. By computing the definitions: its joints are solved, and dividing it inserts one
 -- pose.
 use mathlib.Core.Path.{◌≡◌, refl}
+use mathlib.Core.Bool.{false}
 use mathlib.Core.List.{List, [], ◌∷◌}
 use lib.Ieee as Ieee
 use lib.Ieee.{Float, binary64, of_bits}
@@ -40,7 +41,7 @@ use Rattle.halving.specs.Halving as Halving
 use Rattle.halving.specs.Halving.{Done, halve}
 use Rattle.middle.specs.declared.Item.{Item}
 use Rattle.middle.specs.declared.Tolerances.{Tolerances}
-use Rattle.middle.specs.Testing.{as_near, joints_unchanged, lerp_joints, pose_of, midpoint, tip_gap, axis_gap, middle_within, segment_within, near_an_end, divides}
+use Rattle.middle.specs.Testing.{as_near, joints_unchanged, joints_between, pose_of, midpoint, pose_within, within_at, portions_within, segment_within, near_an_end, divides, tolerances}
 use Rattle.turn.specs.Items.{items_in, space_in}
 use Rattle.machine.specs.Dividing.{division}
 use Rattle.divide.specs.Checking as Checking
@@ -80,8 +81,8 @@ solved = refl
 
 -- ---- and divided, with a chord tolerance of 1e-13 mm, an axis tolerance of 1 degree and just the space: the midpoint
 -- of the two is inserted, and its own midpoints are too near to be
-abbrev tolerances : Tolerances
-tolerances = record { chord = of_bits binary64 0x3d3c_25c2_6849_7682; axis = one }
+abbrev tol : Tolerances
+tol = tolerances false (of_bits binary64 0x3d3c_25c2_6849_7682) one
 
 -- 0.9e-12 mm
 abbrev middle : Float
@@ -93,6 +94,6 @@ posed tip joints = record { pose = record { tip = tip; axis = along_z }; joints 
 abbrev result : List Item
 result = posed zero (at nought) ∷ posed zero (at middle) ∷ posed (vector apart apart apart) (at apart) ∷ []
 
-pub divided : subdivide_path chain tolerances poses (flat joint_numbers (at nought ∷ at apart ∷ [])) 18 15 ≡ Halved (Done 1 result)
-unfolding subdivide_path division_check checks_in_order four_whole whole_records tolerance_good Checking.all_finite division_sizes tip_within joint_sets_in joints_within all flat path_chain parallel chain_check second_check rotary_check one_or_two known_letter travel_good has_direction within all_within rotary_within chain_within no_rotary poses_in rows items_in paired space_in division_within division halve Halving.step divides segment_within middle_within near_an_end joints_unchanged as_near tip_gap axis_gap midpoint lerp_joints lerp_vec pose_of gap_vec slerp_axis slerp_cosine angle_between_deg clamp_unit arccosine_of sine_of_cosine arctangent_of angle_float level_float sine_of sine_float served prepared second_spin spin_of unit_axis unit_or unit_direction all_finite tiny with_length forward_core reach reach_axis table_point table_vector head_point head_vector turns_of turn_of rotate_vector rotate_point degree_pair turnable sine_degrees cosine_degrees norm dot cross scale add sub root size_of to_degrees Ieee.add Ieee.sub Ieee.mul Ieee.div Ieee.neg Ieee.lt Ieee.le Ieee.eq Ieee.sum Ieee.round of_bits
+pub divided : subdivide_path chain tol poses (flat joint_numbers (at nought ∷ at apart ∷ [])) 18 15 ≡ Halved (Done 1 result)
+unfolding subdivide_path division_check checks_in_order four_whole whole_records tolerance_good Checking.all_finite division_sizes tip_within joint_sets_in joints_within all flat path_chain parallel chain_check second_check rotary_check one_or_two known_letter travel_good has_direction within all_within rotary_within chain_within no_rotary poses_in rows items_in paired space_in division_within division halve Halving.step divides segment_within portions_within within_at pose_within near_an_end joints_unchanged as_near midpoint joints_between lerp_vec pose_of gap_vec slerp_axis slerp_cosine angle_between_deg clamp_unit arccosine_of sine_of_cosine arctangent_of angle_float level_float sine_of sine_float served prepared second_spin spin_of unit_axis unit_or unit_direction all_finite tiny with_length forward_core reach reach_axis table_point table_vector head_point head_vector turns_of turn_of rotate_vector rotate_point degree_pair turnable sine_degrees cosine_degrees norm dot cross scale add sub root size_of to_degrees Ieee.add Ieee.sub Ieee.mul Ieee.div Ieee.neg Ieee.lt Ieee.le Ieee.eq Ieee.sum Ieee.round of_bits
 divided = refl

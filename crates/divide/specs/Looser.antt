@@ -1,5 +1,7 @@
--- What the price list says of looser tolerances, and of a path that is divided again: R-12's two sentences, as promises
--- of both calls that divide. "Looser is never dearer" is `Later.looser`, and "comes back the same" is `Later.again`.
+-- What the price list says of looser tolerances, of the Rust's test beside the strict one, and of a path that is
+-- divided again: R-12's two sentences and R-14's, as promises of every call that divides. "Looser is never dearer" is
+-- `Later.looser`, "the old division's insertions are a subsequence of the strict one's" is `Later.old`, and "comes back
+-- the same" is `Later.again`. Each holds of the Rust's test and of the strict one.
 use Rattle.std.specs.Prelude.{ℕ, ◌+◌, ◌*◌, ◌≤◌, ◌≡◌, true, Float, length, take, Ok}
 use mathlib.Core.List.{List, Sublistᴰ}
 use Rattle.std.specs.Float.Ieee as Ieee
@@ -12,17 +14,18 @@ use Rattle.halving.specs.Halving.{Done}
 use Rattle.halving.specs.Inserting.{Inserts}
 use Rattle.middle.specs.declared.Item.{Item}
 use Rattle.middle.specs.declared.Tolerances.{Tolerances}
-use Rattle.middle.specs.Testing.{midpoint, divides}
+use Rattle.middle.specs.Testing.{midpoint, divides, plain}
 use Rattle.turn.specs.Items.{items_in, space_in}
 use Rattle.divide.specs.Checking.{tip_within}
 use Rattle.divide.specs.Subdividing.{Halved, given, subdivide_path, Division}
 
--- "both tolerances finite and equal or larger"
+-- "both tolerances finite and equal or larger", and the test not the strict one where the other's is the Rust's
 pub record NotBelow (tol wider : Tolerances) : Type 0 where
   pub chord_finite : finite wider.chord ≡ true
   pub axis_finite : finite wider.axis ≡ true
   pub chord : Ieee.le tol.chord wider.chord ≡ true
   pub axis : Ieee.le tol.axis wider.axis ≡ true
+  pub no_stricter : wider.strict ≡ true → tol.strict ≡ true
 
 -- ---- r is what the tolerances gave, with n inserted: the same path and the same space with wider ones
 pub record NeverDearer (k : Kinematics) (tol wider : Tolerances) (lent solved : List Float) (roomPoses roomJoints n : ℕ) (r : List Item) : Type 0 where
@@ -50,6 +53,10 @@ pub record Later (k : Kinematics) (tol : Tolerances) (lent solved : List Float) 
   -- equal or larger, and every pose inserted then was inserted before, in the same order."
   pub looser : (n : ℕ) → answer ≡ Ok n → (wider : Tolerances) → NotBelow tol wider
       → NeverDearer k tol wider lent solved roomPoses roomJoints n (items_in (path_length lent solved n) poses joints)
+  -- "the old division's insertions are a subsequence of the strict one's": a division that is accepted is accepted with
+  -- the Rust's test and the same tolerances, path and space, and every pose inserted then was inserted before
+  pub old : (n : ℕ) → answer ≡ Ok n
+      → NeverDearer k tol (plain tol) lent solved roomPoses roomJoints n (items_in (path_length lent solved n) poses joints)
   -- "A divided path of at most 100,000 poses, with tips within 100,000 mm, comes back the same with count 0 when it is
   -- divided again under its own tolerances and with space for itself."
   pub again : (n : ℕ) → answer ≡ Ok n → path_length lent solved n ≤ 100000

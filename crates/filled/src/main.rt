@@ -25,6 +25,7 @@ fn main(rt: HostRuntime) -> io::Result<()> {
         tol: Tolerances {
             chord: 0.05,
             axis: 4.0,
+            strict: false,
         },
     };
     let first = item(p, 0.0);

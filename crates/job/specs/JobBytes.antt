@@ -2,7 +2,7 @@
 -- ignored. `w` is the length of a rotary's record: 80 with a rest angle, where the trailer's word is 1, else 72.
 -- A breach is 29 with the offset, in the file, of the first bad field; a count of rotaries other than 1 or 2 is 3, a
 -- foreign letter 4 with its rotary.
-use Rattle.std.specs.Prelude.{ℕ, ◌+◌, ◌-◌, ◌*◌, ◌^◌, Bool, cond, not, ◌&&◌, ◌||◌, List, [], ◌∷◌, length, ◌==◌, nat_le, nat_lt, Err, Ok, Result}
+use Rattle.std.specs.Prelude.{ℕ, ◌+◌, ◌-◌, ◌*◌, ◌^◌, Bool, false, cond, not, ◌&&◌, ◌||◌, List, [], ◌∷◌, length, ◌==◌, nat_le, nat_lt, Err, Ok, Result}
 use Rattle.refusal.specs.declared.Refusal.{Refusal}
 use Rattle.refusal.specs.declared.Cause.{Cause}
 use Rattle.chain.specs.Checked.{Checked}
@@ -11,6 +11,7 @@ use Rattle.chain.specs.declared.Kinematics.{Kinematics}
 use Rattle.chain.specs.Bytes.{byte_at, little_endian, number_at, vector_at}
 use Rattle.chain.specs.Check.{demand, first_refusal, one_or_two, known_letter}
 use Rattle.chain.specs.ChainBytes.{empty_field, first_field, second_field, spindle_field, length_of_chain, letter_field, zeros, rotary_fields, rotary_at, no_rotary}
+use Rattle.middle.specs.Testing.{tolerances}
 use Rattle.job.specs.declared.Places.{Places}
 use Rattle.job.specs.declared.Job.{Job}
 use Rattle.job.specs.declared.RecordKind.{RecordKind}
@@ -128,7 +129,7 @@ job_at w bytes p chain = record {
   poses_at = p.poses;
   poses = p.count;
   cone = number_at bytes (cone_field (trailer bytes));
-  tol = record { chord = number_at bytes (chord_field (trailer bytes)); axis = number_at bytes (axis_field (trailer bytes)) };
+  tol = tolerances false (number_at bytes (chord_field (trailer bytes))) (number_at bytes (axis_field (trailer bytes)));
   chain = chain;
 }
 

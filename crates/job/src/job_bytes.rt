@@ -105,7 +105,11 @@ impl JobBytes<'_> {
             poses_at: p.poses,
             poses: p.count,
             cone,
-            tol: Tolerances { chord, axis },
+            tol: Tolerances {
+                chord,
+                axis,
+                strict: false,
+            },
             chain,
         }
     }

@@ -104,6 +104,6 @@ pair_filled p tol space had left right poses joints {o₂ = o₂} {q₂ = q₂} 
     )
 
 pub filled_is : (p : Prepared) (had : ℕ) (tol : Tolerances) (left right : Item) (poses joints : List Float) {space : ℕ} → space ≡ space_in (length poses) (length joints) → 2 ≤ space
-    → filled p had tol.chord tol.axis left right poses joints ≡ pair_halved p tol space had left right
+    → filled p had tol left right poses joints ≡ pair_halved p tol space had left right
 unfolding filled
 filled_is p had tol left right poses joints e h = let f = le-ltb _ _ h in rw (← e, f)

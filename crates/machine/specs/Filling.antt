@@ -16,10 +16,10 @@ unfoldable pub pair_halved : Prepared → Tolerances → ℕ → ℕ → Item �
 pair_halved p tol space had left right = division_after had p tol space (left ∷ right ∷ [])
 
 -- without space for the pair itself it is refused
-unfoldable pub filled : Prepared → ℕ → Float → Float → Item → Item → List Float → List Float → Answer Item
-filled p had chord axis left right poses joints =
+unfoldable pub filled : Prepared → ℕ → Tolerances → Item → Item → List Float → List Float → Answer Item
+filled p had tol left right poses joints =
     cond (ltb (space_in (length poses) (length joints)) 2) (NoSpace had)
-    (pair_halved p (record { chord = chord; axis = axis }) (space_in (length poses) (length joints)) had left right)
+    (pair_halved p tol (space_in (length poses) (length joints)) had left right)
 
 -- ---- the machine counts up to 10,000
 unfoldable pub counted : ℕ → ℕ
@@ -40,7 +40,7 @@ count_in (Err (Stop.TooMany n)) = n
 count_in (Err (Stop.NoSpace n)) = n
 
 abbrev pub filling : Subdiv → Prepared → Item → Item → List Float → List Float → Answer Item
-filling job p left right poses joints = filled p job.inserted job.tol.chord job.tol.axis left right poses joints
+filling job p left right poses joints = filled p job.inserted job.tol left right poses joints
 
 abbrev pub after : Subdiv → Answer Item → Subdiv
 after job answer = record { inserted = count answer; tol = job.tol }

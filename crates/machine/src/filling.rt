@@ -75,9 +75,9 @@ pub fn fill_pair(
     poses: &mut [f64],
     joints: &mut [f64],
 ) -> Result<u64, Stop>
-    ensures answer { result ≡ divided_in (S.filled p had tol.chord tol.axis left right poses.old joints.old) }
-    ensures poses { poses.new ≡ poses_over (S.filled p had tol.chord tol.axis left right poses.old joints.old) poses.old }
-    ensures joints { joints.new ≡ joints_over (S.filled p had tol.chord tol.axis left right poses.old joints.old) joints.old }
+    ensures answer { result ≡ divided_in (S.filled p had tol left right poses.old joints.old) }
+    ensures poses { poses.new ≡ poses_over (S.filled p had tol left right poses.old joints.old) poses.old }
+    ensures joints { joints.new ≡ joints_over (S.filled p had tol left right poses.old joints.old) joints.old }
 {
     let space = space_in(poses.len(), joints.len());
     if space < 2 {

@@ -1,5 +1,5 @@
--- What the two entries that divide answer, from the bytes and numbers that they are lent: first 20, then 29, then the
--- checks of `divide`.
+-- What the entries that divide answer, from the bytes and numbers that they are lent: first 20, then 29, then the
+-- checks of `divide`. The strict division is the old one's definition under strict tolerances.
 use Rattle.std.specs.Prelude.{ℕ, ◌≡◌, ◌↔◌, Bool, true, false, not, cond, ◌&&◌, List, length, Float, Err, Ok, Option, Result}
 use Rattle.turn.specs.declared.Stop.{Stop}
 use Rattle.turn.specs.Stops.{cause_of, inserted_before}
@@ -55,9 +55,6 @@ pub record Says (number : ℕ) (answer : Division) : Type 0 where
 
 abbrev pub lengths_refused : Division
 lengths_refused = Err (DivisionError.Refused (refusal Cause.LengthsDiffer 0))
-
-abbrev pub tolerances : Float → Float → Tolerances
-tolerances chord axis = record { chord = chord; axis = axis }
 
 -- ---- division; `roomPoses` and `roomJoints` are how many numbers the lent outputs have
 abbrev pub subdivide_read : Result Kinematics Refusal → Tolerances → (poses joints : List Float) → (roomPoses roomJoints : ℕ) → DivisionAnswer

@@ -6,7 +6,7 @@
 // writes the first answer, so that a refusal leaves the slice as it was. The entries of a chain stand in chain_entries,
 // those of the inverse map in inverse_entries, that of the positioning profile in tooth_entries, those of a model in
 // link_entries, the one that asks whether links meet in meet_entries, that of a path in path_entries, those that divide
-// in divide_entries, the one that quotes a division in quote_entries, those of quotas in quota_entries, those of a job
+// in divide_entries, those that quote a division in quote_entries, those of quotas in quota_entries, those of a job
 // in job_entries, the one that writes a job in write_entries, those of the extremes beside a path in extremes_entries;
 // a crate above calls all of them from here.
 #![tactic(auto)]
@@ -36,7 +36,9 @@ ghost use Rattle.maztubel.specs.Answers.{number_of, written_over, refuses, same_
 
 use chain::demand;
 pub use chain_entries::{maztubel_check_chain, maztubel_forward};
-pub use divide_entries::{maztubel_solve_and_divide, maztubel_subdivide_path};
+pub use divide_entries::{
+    maztubel_solve_and_divide, maztubel_subdivide_path, maztubel_subdivide_strict,
+};
 pub use extremes_entries::{
     maztubel_build_extremes, maztubel_first_above, maztubel_replace_joints,
 };
@@ -47,7 +49,7 @@ pub use link_entries::{maztubel_check_model, maztubel_link_in_part, maztubel_lin
 pub use meet_entries::maztubel_links_meet;
 pub use path_entries::maztubel_solve_path;
 pub use quota_entries::{maztubel_divide_for, maztubel_grant};
-pub use quote_entries::maztubel_quote;
+pub use quote_entries::{maztubel_quote, maztubel_quote_strict};
 use refusal::{Cause, Refusal};
 pub use tooth_entries::maztubel_choose_tooth;
 pub use write_entries::maztubel_write_job;

@@ -1,9 +1,10 @@
-// The entry that quotes a division: its figures, with no path written. The three figures, the place and the letter are
-// written by every call; a refusal of the checks keeps both scratches, and every other answer leaves +0.0 in them.
-ghost use Rattle.std.specs.Prelude.{◌≡◌, length};
+// The entries that quote a division, the Rust's or the strict one: its figures, with no path written. The three
+// figures, the place and the letter are written by every call; a refusal of the checks keeps both scratches, and every
+// other answer leaves +0.0 in them.
+ghost use Rattle.std.specs.Prelude.{◌≡◌, true, false, length};
 ghost use Rattle.chain.specs.ChainBytes.{read_chain};
+ghost use Rattle.middle.specs.Testing.{tolerances};
 ghost use Rattle.quote.specs.Quotation.{scratch_left};
-ghost use Rattle.maztubel.specs.DivideEntries.{tolerances};
 ghost use Rattle.maztubel.specs.QuoteEntries as S;
 
 use crate::lent::hand_back;
@@ -27,14 +28,54 @@ pub fn maztubel_quote(
     at: &mut u64,
     letter: &mut u8,
 ) -> u32
-    ensures told { let answer = S.quote_of chain.now (tolerances chord axis) poses.now joints.now (length scratch_joints.old) (length scratch_tips.old) in
+    ensures told { let answer = S.quote_of chain.now (tolerances false chord axis) poses.now joints.now (length scratch_joints.old) (length scratch_tips.old) in
         S.Told answer result inserted.new poses_out.new evaluations.new at.new letter.new }
-    ensures scratch { let answer = S.quote_of chain.now (tolerances chord axis) poses.now joints.now (length scratch_joints.old) (length scratch_tips.old) in
+    ensures scratch { let answer = S.quote_of chain.now (tolerances false chord axis) poses.now joints.now (length scratch_joints.old) (length scratch_tips.old) in
         (scratch_joints.new ≡ scratch_left answer scratch_joints.old) × (scratch_tips.new ≡ scratch_left answer scratch_tips.old) }
-    ensures divided { let answer = S.quote_of chain.now (tolerances chord axis) poses.now joints.now (length scratch_joints.old) (length scratch_tips.old) in
-        S.QuotePromise (read_chain chain.now) (tolerances chord axis) poses.now joints.now (length scratch_joints.old) (length scratch_tips.old) answer }
+    ensures divided { let answer = S.quote_of chain.now (tolerances false chord axis) poses.now joints.now (length scratch_joints.old) (length scratch_tips.old) in
+        S.QuotePromise (read_chain chain.now) (tolerances false chord axis) poses.now joints.now (length scratch_joints.old) (length scratch_tips.old) answer }
 {
-    let tol = Tolerances { chord, axis };
+    let tol = Tolerances {
+        chord,
+        axis,
+        strict: false,
+    };
+    let answer = quote_of(chain, tol, poses, joints, scratch_joints, scratch_tips);
+    let figures = figures_in(answer);
+    *inserted = figures.inserted;
+    *poses_out = figures.poses;
+    *evaluations = figures.evaluations;
+    hand_back(&refusal_in(answer), at, letter)
+}
+
+// The same of the strict division.
+#[tactic(auto, using(crate::proofs::QuotesFor::quote_promised))]
+pub fn maztubel_quote_strict(
+    chain: &[u8],
+    poses: &[f64],
+    joints: &[f64],
+    chord: f64,
+    axis: f64,
+    scratch_joints: &mut [f64],
+    scratch_tips: &mut [f64],
+    inserted: &mut u64,
+    poses_out: &mut u64,
+    evaluations: &mut u64,
+    at: &mut u64,
+    letter: &mut u8,
+) -> u32
+    ensures told { let answer = S.quote_of chain.now (tolerances true chord axis) poses.now joints.now (length scratch_joints.old) (length scratch_tips.old) in
+        S.Told answer result inserted.new poses_out.new evaluations.new at.new letter.new }
+    ensures scratch { let answer = S.quote_of chain.now (tolerances true chord axis) poses.now joints.now (length scratch_joints.old) (length scratch_tips.old) in
+        (scratch_joints.new ≡ scratch_left answer scratch_joints.old) × (scratch_tips.new ≡ scratch_left answer scratch_tips.old) }
+    ensures divided { let answer = S.quote_of chain.now (tolerances true chord axis) poses.now joints.now (length scratch_joints.old) (length scratch_tips.old) in
+        S.QuotePromise (read_chain chain.now) (tolerances true chord axis) poses.now joints.now (length scratch_joints.old) (length scratch_tips.old) answer }
+{
+    let tol = Tolerances {
+        chord,
+        axis,
+        strict: true,
+    };
     let answer = quote_of(chain, tol, poses, joints, scratch_joints, scratch_tips);
     let figures = figures_in(answer);
     *inserted = figures.inserted;

@@ -1,10 +1,10 @@
 // The entry that writes a job into lent bytes. A refusal keeps the bytes; the job's length, the place and the letter
 // are written by every call.
-ghost use Rattle.std.specs.Prelude.{◌≡◌};
+ghost use Rattle.std.specs.Prelude.{◌≡◌, false};
 ghost use Rattle.std.proofs.Math.ListN as ListN;
 ghost use Rattle.chain.specs.ChainBytes.{read_chain};
+ghost use Rattle.middle.specs.Testing.{tolerances};
 ghost use Rattle.maztubel.specs.Lent as Lent;
-ghost use Rattle.maztubel.specs.DivideEntries.{tolerances};
 ghost use Rattle.maztubel.specs.WriteEntries as S;
 
 use crate::lent::hand_back;
@@ -23,14 +23,18 @@ pub fn maztubel_write_job(
     at: &mut u64,
     letter: &mut u8,
 ) -> u32
-    ensures number { result ≡ Lent.number_in (S.write_of chain.now poses.now cone (tolerances chord axis) (ListN.length job.old)) }
-    ensures length { length.new ≡ S.length_in (S.write_of chain.now poses.now cone (tolerances chord axis) (ListN.length job.old)) }
-    ensures place { at.new ≡ Lent.place_in (S.write_of chain.now poses.now cone (tolerances chord axis) (ListN.length job.old)) }
-    ensures named { letter.new ≡ Lent.letter_in (S.write_of chain.now poses.now cone (tolerances chord axis) (ListN.length job.old)) }
-    ensures lent { job.new ≡ S.job_left chain.now poses.now cone (tolerances chord axis) job.old }
-    ensures promise { S.WritePromise (read_chain chain.now) poses.now cone (tolerances chord axis) (ListN.length job.old) }
+    ensures number { result ≡ Lent.number_in (S.write_of chain.now poses.now cone (tolerances false chord axis) (ListN.length job.old)) }
+    ensures length { length.new ≡ S.length_in (S.write_of chain.now poses.now cone (tolerances false chord axis) (ListN.length job.old)) }
+    ensures place { at.new ≡ Lent.place_in (S.write_of chain.now poses.now cone (tolerances false chord axis) (ListN.length job.old)) }
+    ensures named { letter.new ≡ Lent.letter_in (S.write_of chain.now poses.now cone (tolerances false chord axis) (ListN.length job.old)) }
+    ensures lent { job.new ≡ S.job_left chain.now poses.now cone (tolerances false chord axis) job.old }
+    ensures promise { S.WritePromise (read_chain chain.now) poses.now cone (tolerances false chord axis) (ListN.length job.old) }
 {
-    let tol = Tolerances { chord, axis };
+    let tol = Tolerances {
+        chord,
+        axis,
+        strict: false,
+    };
     let written = write_of(chain, poses, cone, tol, job);
     *length = length_in(written);
     hand_back(&written, at, letter)

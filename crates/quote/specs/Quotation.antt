@@ -12,7 +12,7 @@ use Rattle.halving.specs.Halving as Halving
 use Rattle.quoting.specs.Costing as Costing
 use Rattle.middle.specs.declared.Item.{Item}
 use Rattle.middle.specs.declared.Tolerances.{Tolerances}
-use Rattle.middle.specs.Testing.{joints_unchanged, midpoint, divides}
+use Rattle.middle.specs.Testing.{portions, joints_unchanged, midpoint, divides}
 use Rattle.turn.specs.declared.Stop.{Stop}
 use Rattle.turn.specs.Turning.{most}
 use Rattle.machine.specs.Dividing.{division}
@@ -22,11 +22,14 @@ use Rattle.quote.specs.declared.Figures.{Figures}
 use Rattle.quote.specs.declared.QuoteError.{QuoteError}
 
 -- ---- the figures
--- a test under these tolerances: the axes that the two joint sets reach, and their midpoint
+-- a test under these tolerances: the axes that the two joint sets reach, and one pose for each portion of the way that
+-- the test asks at. These are three, and of a strict test "five evaluations for a tested pair, also where the old test
+-- already fails"
 unfoldable pub per_test : Tolerances → ℕ
-per_test tol = 3
+per_test tol = 2 + length (portions tol.strict)
 
--- "three evaluations unless the Rust's test passes them before any"
+-- "three evaluations unless the Rust's test passes them before any"; of a strict test too what does not differ in its
+-- joints "passes and counts none"
 unfoldable pub cost_of : Tolerances → Item → Item → ℕ
 cost_of tol left right = cond (joints_unchanged left.joints right.joints) 0 (per_test tol)
 

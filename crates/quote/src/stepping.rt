@@ -34,12 +34,18 @@ pub const TIPS: usize = STACK * 3;
 // Below this index of the stack no pose is kept: a pose takes the place of two tips.
 const BARE: usize = 5000;
 
-// How many forward evaluations a test counts: the axes that the two joint sets reach, and their midpoint.
+// How many forward evaluations a test counts: the axes that the two joint sets reach, and their midpoint; of a strict
+// test both quarters too, also where it fails in the middle and they are not evaluated.
 const PER_TEST: u64 = 3;
+
+const PER_STRICT_TEST: u64 = 5;
 
 fn per_test(tol: Tolerances) -> u64
     ensures { result ≡ Q.per_test tol }
 {
+    if tol.strict {
+        return PER_STRICT_TEST;
+    }
     PER_TEST
 }
 
@@ -238,7 +244,7 @@ impl QuotedPath<'_> {
         ensures kept { S.KeptOf self.now.p stack.new tips.new (S.left_by result m.new) }
     {
         let left = m.place.left;
-        let said = verdict_with(self.p, self.tol, left, m.right, m.left_axis, m.right_axis);
+        let said = verdict_with(&self.p, &self.tol, &left, &m.right, &m.left_axis, &m.right_axis);
         let Some(middle) = said else {
             let tested = cost(self.tol, left, m.right);
             self.move_on(m, tested, stack, tips);

@@ -102,6 +102,8 @@ fn call<W: Write>(
         23 => quotas::divide_for(out, case, first, second, lent, other),
         24 => entries::choose_tooth(out, case, first, second, lent),
         25 => entries::links_meet(out, case, first),
+        26 => paths::subdivide_strict(out, case, first, second, lent, other),
+        27 => paths::quote_strict(out, case, first, second, lent, other),
         _ => writeln!(out, "unknown"),
     }
 }

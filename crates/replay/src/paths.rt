@@ -59,6 +59,37 @@ pub fn subdivide_path<W: Write>(
     )
 }
 
+pub fn subdivide_strict<W: Write>(
+    out: &mut W,
+    case: &Case,
+    poses: &[f64],
+    joints: &[f64],
+    out_poses: &mut [f64],
+    out_joints: &mut [f64],
+) -> io::Result<()> {
+    let mut inserted: u64 = 7;
+    called(out, "subdivide_strict", |at, letter| {
+        maztubel::maztubel_subdivide_strict(
+            case.chain_or_job,
+            poses,
+            joints,
+            case.single(0),
+            case.single(1),
+            out_poses,
+            out_joints,
+            &mut inserted,
+            at,
+            letter,
+        )
+    })?;
+    writeln!(
+        out,
+        " {inserted}{}{}",
+        Numbers(out_poses),
+        Numbers(out_joints)
+    )
+}
+
 pub fn solve_and_divide<W: Write>(
     out: &mut W,
     case: &Case,
@@ -104,6 +135,41 @@ pub fn quote<W: Write>(
     let mut evaluations: u64 = 7;
     called(out, "quote", |at, letter| {
         maztubel::maztubel_quote(
+            case.chain_or_job,
+            poses,
+            joints,
+            case.single(0),
+            case.single(1),
+            scratch_joints,
+            scratch_tips,
+            &mut inserted,
+            &mut poses_out,
+            &mut evaluations,
+            at,
+            letter,
+        )
+    })?;
+    writeln!(
+        out,
+        " {inserted} {poses_out} {evaluations}{}{}",
+        Numbers(scratch_joints),
+        Numbers(scratch_tips)
+    )
+}
+
+pub fn quote_strict<W: Write>(
+    out: &mut W,
+    case: &Case,
+    poses: &[f64],
+    joints: &[f64],
+    scratch_joints: &mut [f64],
+    scratch_tips: &mut [f64],
+) -> io::Result<()> {
+    let mut inserted: u64 = 7;
+    let mut poses_out: u64 = 7;
+    let mut evaluations: u64 = 7;
+    called(out, "quote_strict", |at, letter| {
+        maztubel::maztubel_quote_strict(
             case.chain_or_job,
             poses,
             joints,

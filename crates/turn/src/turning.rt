@@ -144,7 +144,7 @@ impl Machine {
         let left = out.item(self.placed - 1);
         let right = out.item(self.waiting);
         let axis = now.right_axis(right);
-        let said = verdict_with(by.p, by.tol, left, right, self.left_axis, axis);
+        let said = verdict_with(&by.p, &by.tol, &left, &right, &self.left_axis, &axis);
         let Some(middle) = said else {
             let next = now.past(by.p, axis, out);
             out.put(right, self.placed);

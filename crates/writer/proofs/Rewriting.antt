@@ -14,9 +14,10 @@ use Rattle.geometry.specs.Direction.{all_finite}
 use Rattle.chain.specs.Check.{has_direction, demand, then, one_or_two, rotary_check, second_check, chain_check, rotary_within, chain_within}
 use Rattle.chain.specs.ChainBytes.{no_rotary}
 use Rattle.middle.specs.declared.Tolerances.{Tolerances}
+use Rattle.middle.specs.Testing.{tolerances}
 use Rattle.job.specs.JobBytes.{word_length, read_job}
 use Rattle.job.specs.JobPoses.{poses_of}
-use Rattle.writer.specs.Writing.{vector_bytes, head_bytes, rotary_bytes, rest_nought, second_nought, word_of, record_of, second_bytes, chain_bytes, job_bytes, plain, job_of}
+use Rattle.writer.specs.Writing.{vector_bytes, head_bytes, rotary_bytes, rest_nought, second_nought, word_of, record_of, second_bytes, chain_bytes, trailer_bytes, job_bytes, plain, job_of}
 use Rattle.writer.specs.Checking.{write_sizes, in_order, write_check, tolerances_of, SameFile}
 
 -- ---- a second rotary that is not there is neither written nor checked
@@ -70,6 +71,15 @@ module _ (k : Kinematics) where
 
 -- ---- the file
 module _ (k : Kinematics) (poses : List Float) (cone : Float) (tol : Tolerances) (room : ℕ) where
+  -- a job has the two numbers alone: which test they are for is not written
+  numbers_checked : write_check k poses cone (tolerances false tol.chord tol.axis) room ≡ write_check k poses cone tol room
+  unfolding write_check
+  numbers_checked = refl
+
+  numbers_written : job_bytes k poses cone (tolerances false tol.chord tol.axis) ≡ job_bytes k poses cone tol
+  unfolding job_bytes trailer_bytes
+  numbers_written = refl
+
   -- by what the reader gets
   pub same_file : write_check k poses cone tol room ≡ Ok tt → read_job (job_bytes k poses cone tol) ≡ Ok (job_of k poses cone tol)
       → poses_of (job_bytes k poses cone tol) (job_of k poses cone tol) ≡ poses → SameFile (read_job (job_bytes k poses cone tol)) (job_bytes k poses cone tol) room
@@ -77,4 +87,7 @@ module _ (k : Kinematics) (poses : List Float) (cone : Float) (tol : Tolerances)
     where
       again : write_check k poses cone tol room ≡ Ok tt → (write_check (job_of k poses cone tol).chain poses (job_of k poses cone tol).cone (tolerances_of (job_of k poses cone tol)) room ≡ Ok tt)
           × (job_bytes (job_of k poses cone tol).chain poses (job_of k poses cone tol).cone (tolerances_of (job_of k poses cone tol)) ≡ job_bytes k poses cone tol)
-      again e = unfold job_of in (same_write k poses cone tol room ∙ e, same_bytes k poses cone tol)
+      again e =
+          unfold job_of in
+          let given = tolerances false tol.chord tol.axis in
+          (same_write k poses cone given room ∙ numbers_checked ∙ e, same_bytes k poses cone given ∙ numbers_written)

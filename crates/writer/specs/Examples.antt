@@ -44,7 +44,7 @@ chain rest = record {
 }
 
 tolerances : Tolerances
-tolerances = record { chord = one; axis = of_bits binary64 0x3fe0_0000_0000_0000 }
+tolerances = record { chord = one; axis = of_bits binary64 0x3fe0_0000_0000_0000; strict = false }
 
 no_poses : job_bytes (chain nought) [] one tolerances
     ≡ (1 ∷ replicate 7 0)

@@ -4,7 +4,7 @@
 -- The fields are those of the reader's lists (`ChainBytes` of chain, `JobBytes` of job): a record and the trailer are
 -- zero bytes with each field's text over them, from the offset that the list has for it. A rotary's record has w bytes:
 -- 80 with its rest angle, or 72 where every rest angle of the chain is +0.0.
-use Rattle.std.specs.Prelude.{Bool, true, ◌&&◌, cond, ◌⊎◌, ◌≡◌, List, [], ◌∷◌, ◌++◌, ℕ, zero, suc, ◌/◌, ◌%◌, eqb, length, replicate, Float, None, Option, Some}
+use Rattle.std.specs.Prelude.{Bool, true, false, ◌&&◌, cond, ◌⊎◌, ◌≡◌, List, [], ◌∷◌, ◌++◌, ℕ, zero, suc, ◌/◌, ◌%◌, eqb, length, replicate, Float, None, Option, Some}
 use Rattle.lists.specs.Rows.{flat}
 use Rattle.float.specs.Helpers.{nought}
 use Rattle.geometry.specs.declared.Vec3.{Vec3}
@@ -16,6 +16,7 @@ use Rattle.chain.specs.declared.Kinematics.{Kinematics}
 use Rattle.chain.specs.ChainBytes.{letter_field, carrier_field, limits_field, pivot_field, min_field, max_field, rest_field, length_of_chain, no_rotary}
 use Rattle.chain.specs.ChainBytes as Chain
 use Rattle.middle.specs.declared.Tolerances.{Tolerances}
+use Rattle.middle.specs.Testing.{tolerances}
 use Rattle.job.specs.Spelling.{written, bits_of}
 use Rattle.job.specs.JobBytes as Trailer
 use Rattle.job.specs.JobBytes.{word_length}
@@ -116,7 +117,7 @@ unfoldable pub job_bytes : Kinematics → List Float → Float → Tolerances �
 job_bytes k poses cone tol =
     chain_bytes (record_of k) k ++ (poses_bytes poses ++ trailer_bytes (length_of_chain (record_of k) k.count) (length poses / 6) (word_of k) cone tol)
 
--- ---- what a reader gets
+-- ---- what a reader gets: the two tolerances, which a job has for the Rust's test, whichever test they were of, and
 -- the chain but for a second rotary that it has not: the unused numbers
 unfoldable pub plain : Kinematics → Kinematics
 plain k = record { count = k.count; first = k.first; second = cond (eqb k.count 2) k.second no_rotary; spindle_axis = k.spindle_axis }
@@ -128,6 +129,6 @@ job_of k poses cone tol = record {
   poses_at = length_of_chain (record_of k) k.count;
   poses = length poses / 6;
   cone = cone;
-  tol = tol;
+  tol = tolerances false tol.chord tol.axis;
   chain = plain k;
 }

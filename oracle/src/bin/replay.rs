@@ -31,8 +31,8 @@ mod sample {
     use oracle::replayed::Replayed;
     use oracle::replayed_quotas;
     use oracle::{cases, inverse_cases};
+    use oracle::{quotes, replayed_jobs, replayed_meetings, replayed_quotes, replayed_stricts};
     use oracle::{replayed_calls, replayed_extremes, replayed_functions};
-    use oracle::{replayed_jobs, replayed_meetings, replayed_quotes};
     use std::collections::BTreeMap;
     use std::fs;
     use std::path::Path;
@@ -46,6 +46,7 @@ mod sample {
 
     /// What is drawn seldom comes to 27, and is never short then.
     const DIVIDES: [&str; 2] = ["subdivide_path", "solve_and_divide"];
+    const STRICT: [&str; 2] = ["subdivide_strict", "quote_strict"];
 
     /// So many cases have each refusal's number, and the one of too many links.
     const OF_EACH: usize = 5;
@@ -147,6 +148,7 @@ mod sample {
         all.push(of_quotes());
         all.push(of_teeth());
         all.push(of_meetings());
+        all.extend(of_stricts());
         all
     }
 
@@ -276,6 +278,28 @@ mod sample {
         Entry::new("links_meet", 100, &refusals, replayed_meetings::of_meeting).longer(6)
     }
 
+    fn of_stricts<'a>() -> [Entry<'a>; 2] {
+        let refused: [&[u32]; 2] = [&CHAIN, &[16, 17, 19, 20, 28, 30]];
+        let [divide, quote] = STRICT;
+        [
+            Entry::new(divide, 110, &refused, replayed_stricts::of_division).longer(6),
+            Entry::new(quote, 110, &refused, replayed_stricts::of_quote).longer(6),
+        ]
+    }
+
+    /// One of 27, of an entry that divides or quotes.
+    fn of_too_many(entry: &str) -> Option<Replayed> {
+        let case = match entry {
+            "quote" => replayed_quotes::of_too_many(entry, quotes::expected),
+            _ if DIVIDES.contains(&entry) => replayed_calls::of_too_many(entry),
+            _ if STRICT.contains(&entry) => replayed_stricts::of_too_many(entry),
+            _ => return None,
+        };
+        let case = case.expect("a short case");
+        assert_eq!(case.number, 27);
+        Some(case)
+    }
+
     /// Every job of examples/jobs stands before what is drawn, and behind it, once for each call that divides or quotes, 27.
     pub fn write(folder: &Path) {
         let sums = Sums::default();
@@ -287,16 +311,7 @@ mod sample {
                 let examples = jobs.iter().filter_map(|job| replayed_jobs::of_reader(job));
                 cases.splice(0..0, examples);
             }
-            if DIVIDES.contains(&entry.name) {
-                let case = replayed_calls::of_too_many(entry.name).expect("a short case");
-                assert_eq!(case.number, 27);
-                cases.push(case);
-            }
-            if entry.name == "quote" {
-                let case = replayed_quotes::of_too_many().expect("a short case");
-                assert_eq!(case.number, 27);
-                cases.push(case);
-            }
+            cases.extend(of_too_many(entry.name));
             if entry.name == "subdivide_path" {
                 cases.extend(replayed_calls::of_later(
                     OF_LATER,

@@ -4,7 +4,13 @@
 
 pub mod fenced;
 
+use maztubel::flat::Told;
 use maztubel::{Carrier, Chain, Limits, Pose, Rotary};
+
+/// A flat entry that divides given poses with their joints, and one that quotes such a division.
+pub type Dividing = fn(&[u8], &[f64], &[f64], f64, f64, &mut [f64], &mut [f64]) -> Told;
+pub type Quoting =
+    fn(&[u8], &[f64], &[f64], f64, f64, &mut [f64], &mut [f64], &mut u64, &mut u64) -> Told;
 
 pub const X: [f64; 3] = [1.0, 0.0, 0.0];
 pub const Y: [f64; 3] = [0.0, 1.0, 0.0];

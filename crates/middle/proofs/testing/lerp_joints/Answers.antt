@@ -1,6 +1,6 @@
-use Rattle.middle.specs.Testing.{lerp_joints}
+use Rattle.middle.specs.Testing.{joints_between}
 use Rattle.middle.proofs.testing.lerp_joints.Goals as goal
 
 pub returns : goal.returns
-unfolding lerp_joints
+unfolding joints_between
 returns c = rw c.lerp_vec-xyz.ensures

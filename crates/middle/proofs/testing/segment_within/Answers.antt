@@ -7,4 +7,7 @@ returns-then-joints_unchanged c = rw (rw c.joints_unchanged.ensures at c.if-join
 
 pub returns : goal.returns
 unfolding segment_within
-returns c = rw (c.middle_within.ensures, c.midpoint-middle.ensures, c.pose_of-to.ensures, c.pose_of-from.ensures, rw c.joints_unchanged.ensures at c.if-joints_unchanged.false)
+returns c = rw (c.portions_within.ensures, c.pose_of-to.ensures, c.pose_of-from.ensures, rw c.joints_unchanged.ensures at c.if-joints_unchanged.false)
+
+pub portions_within-requires : goal.portions_within-requires
+portions_within-requires c = c.midpoint-middle.ensures

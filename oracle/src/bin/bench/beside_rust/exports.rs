@@ -4,7 +4,7 @@ use super::finishing::CONE;
 use super::forwards::{TOOL_LENGTH, TWO_TABLES, chain};
 use oracle::maztubel::{self, Asked, Course, Lent, Machine, Parts, Scratch, Solved};
 use oracle::models::{self, BOX, Link};
-use oracle::quotes::ENOUGH;
+use oracle::quotes::{ENOUGH, Quote};
 
 const JOINTS: [f64; 5] = [100.0, -50.0, 20.0, 30.0, -70.0];
 const POSE: [f64; 6] = [100.0, -50.0, 20.0, 0.3, 0.4, 0.8];
@@ -16,8 +16,10 @@ const THROUGH_THE_CONE: [[f64; 6]; 6] = [
     [4.0, 0.0, 0.0, 0.0, 0.01, 1.0],
     [5.0, 0.0, 0.0, 0.02, 0.1, 1.0],
 ];
-/// Two poses with joints that differ, between which a quotation inserts some.
-const APART: [[f64; 5]; 2] = [JOINTS, [110.0, -50.0, 20.0, 40.0, -60.0]];
+/// Two poses whose joints turn both rotaries, and tolerances under which some are inserted between them.
+const TURNING_POSES: [[f64; 6]; 2] = [POSE, POSE];
+const TURNING_JOINTS: [[f64; 5]; 2] = [JOINTS, [120.0, -50.0, 20.0, 45.0, -40.0]];
+const TURNING_TOLERANCES: [f64; 2] = [1e6, 0.01];
 const HINT: [f64; 2] = [10.0, 20.0];
 const ANGLES: [f64; 100] = [0.5; 100];
 /// All five turns of each angle lie within them.
@@ -33,7 +35,8 @@ pub struct Given {
     places: [u64; 4],
     tolerances: [f64; 3],
     balances: [u64; 32],
-    scratch: [Vec<f64>; 2],
+    /// As much as a quotation is lent.
+    scratch: Vec<f64>,
     count: u64,
     at: u64,
     letter: u8,
@@ -42,7 +45,7 @@ pub struct Given {
 /// With its name.
 type Export = (&'static str, fn(&mut Given) -> u32);
 
-pub const EXPORTS: [Export; 29] = [
+pub const EXPORTS: [Export; 31] = [
     ("sine", |g| maztubel::maztubel_sine(0.5, &mut g.numbers[0])),
     ("cosine", |g| {
         maztubel::maztubel_cosine(0.5, &mut g.numbers[0])
@@ -110,6 +113,19 @@ pub const EXPORTS: [Export; 29] = [
         };
         maztubel::solve_and_divide(through_the_cone(&g.chain), [1e6, 180.0], lent)
     }),
+    ("subdivide_strict", |g| {
+        let (poses, joints) = g.scratch.split_at_mut(600);
+        let lent = Lent {
+            poses,
+            joints: &mut joints[..500],
+            inserted: &mut g.count,
+            at: &mut g.at,
+            letter: &mut g.letter,
+        };
+        maztubel::subdivide_strict(turning(&g.chain), TURNING_TOLERANCES, lent)
+    }),
+    ("quote", |g| quoted(maztubel::quote, g)),
+    ("quote_strict", |g| quoted(maztubel::quote_strict, g)),
     ("check_model", |g| {
         let machine = machine(&g.chain, &g.model);
         maztubel::check_model(machine, &mut g.at, &mut g.letter)
@@ -152,27 +168,6 @@ pub const EXPORTS: [Export; 29] = [
         let summary = &g.numbers[..10];
         maztubel::first_above(&JOINTS, summary, 1, 1.0, &mut g.count, &mut g.at)
     }),
-    ("quote", |g| {
-        let [joints, tips] = &mut g.scratch;
-        let [mut poses, mut evaluations] = [0; 2];
-        let scratch = Scratch {
-            joints,
-            tips,
-            inserted: &mut g.count,
-            poses: &mut poses,
-            evaluations: &mut evaluations,
-            at: &mut g.at,
-            letter: &mut g.letter,
-        };
-        let solved = Solved {
-            chain: &g.chain,
-            poses: THROUGH_THE_CONE[..2].as_flattened(),
-            joints: APART.as_flattened(),
-        };
-        let number = maztubel::quote(solved, [1.0; 2], scratch);
-        assert_ne!(g.count, 0, "nothing is inserted");
-        number
-    }),
     ("grant", |g| maztubel::grant(&mut g.balances, 31, 1)),
     ("divide_for", |g| {
         let (poses, joints) = g.numbers.split_at_mut(130);
@@ -189,24 +184,6 @@ pub const EXPORTS: [Export; 29] = [
             joints: &JOINTS,
         };
         maztubel::divide_for(&mut g.balances, 31, solved, [1.0; 2], lent)
-    }),
-    ("quote", |g| {
-        let solved = Solved {
-            chain: &g.chain,
-            poses: &POSE,
-            joints: &JOINTS,
-        };
-        let ([joints, tips], [poses, evaluations, ..]) = (&mut g.scratch, &mut g.places);
-        let scratch = Scratch {
-            joints,
-            tips,
-            inserted: &mut g.count,
-            poses,
-            evaluations,
-            at: &mut g.at,
-            letter: &mut g.letter,
-        };
-        maztubel::quote(solved, [1.0; 2], scratch)
     }),
     ("links_meet", |g| {
         let lent = g.places.each_mut();
@@ -238,7 +215,7 @@ impl Given {
             places: [0; 4],
             tolerances: [0.0; 3],
             balances: [0; 32],
-            scratch: ENOUGH.map(|length| vec![0.0; length]),
+            scratch: vec![0.0; ENOUGH[0] + ENOUGH[1]],
             count: 0,
             at: 0,
             letter: 0,
@@ -254,6 +231,29 @@ fn through_the_cone(chain: &[u8]) -> Course<'_> {
         start: &[],
         cone: CONE,
     }
+}
+
+fn turning(chain: &[u8]) -> Solved<'_> {
+    Solved {
+        chain,
+        poses: TURNING_POSES.as_flattened(),
+        joints: TURNING_JOINTS.as_flattened(),
+    }
+}
+
+fn quoted(quote: Quote, given: &mut Given) -> u32 {
+    let (joints, tips) = given.scratch.split_at_mut(ENOUGH[0]);
+    let [inserted, poses, evaluations, _] = given.places.each_mut();
+    let scratch = Scratch {
+        joints,
+        tips,
+        inserted,
+        poses,
+        evaluations,
+        at: &mut given.at,
+        letter: &mut given.letter,
+    };
+    quote(turning(&given.chain), TURNING_TOLERANCES, scratch)
 }
 
 fn asked(chain: &[u8]) -> Asked<'_> {

@@ -6,6 +6,7 @@ use super::forwards::{HEAD, TABLE, rotary};
 use oracle::chains::Chain;
 use oracle::maztubel::{self, Course, Lent, Scratch, Solved};
 use oracle::original::untouched::kinematics::{FiveAxisSetup, Joints, ToolPose};
+use oracle::quotes::Quote;
 use oracle::rust::untouched;
 use std::hint::black_box;
 
@@ -106,6 +107,13 @@ impl Case {
         case
     }
 
+    /// None are inserted: every gap is well within.
+    pub fn passing(machine: (&'static str, [u8; 2]), count: usize) -> Self {
+        let mut case = Case::inserting(machine, count, 0);
+        case.tolerances = case.tolerances.map(|x| 4.0 * x);
+        case
+    }
+
     pub fn given(&self) -> usize {
         self.poses.len() / 6
     }
@@ -195,8 +203,20 @@ impl Case {
         maztubel::subdivide_path(self.solved(), self.tolerances, space.lent())
     }
 
+    pub fn subdivide_strict(&self, space: &mut Space) -> u32 {
+        maztubel::subdivide_strict(self.solved(), self.tolerances, space.lent())
+    }
+
     /// Answers how many poses are inserted.
     pub fn quote(&self, scratch: &mut [Vec<f64>; 2]) -> usize {
+        self.quote_by(maztubel::quote, scratch)
+    }
+
+    pub fn quote_strict(&self, scratch: &mut [Vec<f64>; 2]) -> usize {
+        self.quote_by(maztubel::quote_strict, scratch)
+    }
+
+    fn quote_by(&self, quote: Quote, scratch: &mut [Vec<f64>; 2]) -> usize {
         let [joints, tips] = scratch;
         let [mut inserted, mut poses, mut evaluations, mut at] = [0; 4];
         let scratch = Scratch {
@@ -208,7 +228,7 @@ impl Case {
             at: &mut at,
             letter: &mut 0,
         };
-        let number = maztubel::quote(self.solved(), self.tolerances, scratch);
+        let number = quote(self.solved(), self.tolerances, scratch);
         assert_eq!(number, 0, "a path was refused");
         inserted as usize
     }
@@ -229,6 +249,11 @@ impl Case {
 }
 
 impl Space {
+    /// What the last call inserted.
+    pub fn inserted(&self) -> usize {
+        self.inserted as usize
+    }
+
     fn lent(&mut self) -> Lent<'_> {
         Lent {
             poses: &mut self.poses,

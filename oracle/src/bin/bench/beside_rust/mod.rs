@@ -12,6 +12,7 @@ mod program;
 mod quotations;
 mod quotas;
 mod stack;
+mod stricts;
 mod teeth;
 
 use crate::rows::{GROWN, Row, Section};
@@ -30,6 +31,7 @@ pub fn timed() -> (Vec<Section>, Vec<Row>) {
         teeth::section(),
     ];
     sections.extend(paths::sections());
+    sections.push(stricts::section());
     sections.push(quotations::section());
     sections.push(quotas::section());
     sections.push(meetings::section());

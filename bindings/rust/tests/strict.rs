@@ -3,8 +3,14 @@
 
 mod common;
 
+#[path = "../examples/waist.rs"]
+#[allow(dead_code)]
+mod waist;
+
 use common::*;
 use maztubel::*;
+use std::fs;
+use std::path::Path;
 
 const TOLERANCES: Tolerances = Tolerances {
     chord: 0.5,
@@ -26,7 +32,7 @@ fn reached(joints: Vec<Joints>) -> (Vec<Pose>, Vec<Joints>) {
 
 /// The table C turns by half a turn while the tip goes on by 40 mm, 20 mm beside the axis: on its way the tip crosses
 /// the chord in the middle, and is more than 3 mm off at both quarters.
-fn waist() -> (Vec<Pose>, Vec<Joints>) {
+fn half_a_turn() -> (Vec<Pose>, Vec<Joints>) {
     reached(vec![
         set([-20.0, -20.0, 10.0], -90.0),
         set([20.0, -20.0, 10.0], 90.0),
@@ -62,7 +68,7 @@ fn strict((poses, joints): Given, tolerances: Tolerances) -> Divided {
 
 #[test]
 fn a_waist_is_divided() {
-    let given = waist();
+    let given = half_a_turn();
     assert!(gap(&given, 0.5) < 1e-12);
     assert!([0.25, 0.75].iter().all(|&part| gap(&given, part) > 3.0));
     assert_eq!(old(&given, TOLERANCES).inserted, 0);
@@ -103,7 +109,7 @@ fn the_old_division_stands_in_the_strict_one() {
         let joints = solve_path(&tables(), &poses, Start::AtZero, 1.0).unwrap();
         (poses, joints)
     });
-    let others = [waist(), turned(720.0), turned(100.0)];
+    let others = [half_a_turn(), turned(720.0), turned(100.0)];
     for given in arcs.iter().chain(&others) {
         for chord in [10.0, 0.5, 0.05, 0.01] {
             let tolerances = Tolerances { chord, axis: 1.0 };
@@ -127,7 +133,7 @@ fn unchanged_joints_pass() {
 /// As the old call, number by number and place by place; but for the count that the space has room for.
 #[test]
 fn refusals_are_the_old_ones() {
-    let (poses, joints) = waist();
+    let (poses, joints) = half_a_turn();
     let mut broken = joints.clone();
     broken[1].angles[1] = f64::NAN;
     let mut far = joints.clone();
@@ -166,7 +172,7 @@ fn refusals_are_the_old_ones() {
 /// 28 with what there was space for, and both slices cleared.
 #[test]
 fn space() {
-    let (poses, joints) = waist();
+    let (poses, joints) = half_a_turn();
     for space in 0..=9 {
         let mut out_poses = vec![pose([7.25; 3], [7.25; 3]); space];
         let mut out_joints = vec![set([7.25; 3], 7.25); space + 1];
@@ -192,4 +198,14 @@ fn space() {
         assert!(out_poses.iter().all(|pose| *pose == Pose::default()));
         assert!(out_joints.iter().all(|set| *set == Joints::default()));
     }
+}
+
+/// docs/waist.svg is what the example draws.
+#[test]
+fn the_picture_is_the_librarys() {
+    let drawn = Path::new(env!("CARGO_MANIFEST_DIR")).join("../../docs/waist.svg");
+    assert_eq!(
+        fs::read_to_string(drawn).unwrap(),
+        waist::picture().unwrap()
+    );
 }

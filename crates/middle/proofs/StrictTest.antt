@@ -1,8 +1,8 @@
 -- The strict test beside the Rust's, for any tolerances. `old`: where the test is not strict it is the Rust's: joints
--- that do not differ, or both gaps of the midpoint within. `exactly`: where it is strict, two neighbours pass exactly if
--- the old test passes and the tip and axis gaps at one quarter and three quarters are within the same tolerances.
--- `excepted`: joints that do not differ pass both, whatever the gaps are. `stricter`: what passes the strict test passes
--- the old one.
+-- that do not differ, or both gaps of the midpoint within. `exactly`: where it is strict, two neighbours pass exactly
+-- if the old test passes and the tip and axis gaps at one quarter and three quarters are within the same tolerances.
+-- `excepted`: joints that do not differ pass both, whatever the gaps are. `stricter`: what passes the strict test
+-- passes the old one.
 use mathlib.Core.Path.{◌≡◌, refl, ap, ◌∙◌}
 use mathlib.Core.Logic.{◌⊎◌, inl, inr, ⊎_elim, ◌↔◌}
 use mathlib.Core.Bool.{Bool, true, false, cond, ◌&&◌, false≢true, and-eq-true_iff}
@@ -12,8 +12,7 @@ use Rattle.geometry.specs.declared.Vec3.{Vec3}
 use Rattle.geometry.specs.Vector.{gap_vec, lerp_vec}
 use Rattle.geometry.specs.Slerp.{slerp_axis, angle_between_deg}
 use Rattle.chain.specs.declared.Prepared.{Prepared}
-use Rattle.chain.specs.declared.ToolPose.{ToolPose}
-use Rattle.middle.specs.Testing.{quarter, threeQuarters, plain, strictly, joints_unchanged, jointsBetween, pose_of, midpoint, poseWithin, withinAt, segment_within, tip_gap, axis_gap, middle_within, quartersWithin}
+use Rattle.middle.specs.Testing.{quarter, three_quarters, plain, strictly, joints_unchanged, joints_between, pose_of, midpoint, pose_within, within_at, segment_within, tip_gap, axis_gap, middle_within, quarters_within}
 use Rattle.middle.specs.declared.Item.{Item}
 use Rattle.middle.specs.declared.Tolerances.{Tolerances}
 use Rattle.middle.proofs.Portions.{and_true, portions_are}
@@ -49,25 +48,25 @@ module _ (p : Prepared) (tol : Tolerances) (left right : Item) where
       (portions_are p (plain tol) left right axis_left axis_right ∙ and_true _)
 
   -- both gaps at a portion t of the way are within, written out
-  pub gaps : (t : Float) → (withinAt p tol left right axis_left axis_right t ≡ true)
-      ↔ ((Ieee.le (gap_vec (pose_of p (jointsBetween t left.joints right.joints)).tip (lerp_vec left.pose.tip right.pose.tip t)) tol.chord ≡ true)
-      × (Ieee.le (angle_between_deg (pose_of p (jointsBetween t left.joints right.joints)).axis (slerp_axis axis_left axis_right t)) tol.axis ≡ true))
-  unfolding withinAt poseWithin
+  pub gaps : (t : Float) → (within_at p tol left right axis_left axis_right t ≡ true)
+      ↔ ((Ieee.le (gap_vec (pose_of p (joints_between t left.joints right.joints)).tip (lerp_vec left.pose.tip right.pose.tip t)) tol.chord ≡ true)
+      × (Ieee.le (angle_between_deg (pose_of p (joints_between t left.joints right.joints)).axis (slerp_axis axis_left axis_right t)) tol.axis ≡ true))
+  unfolding within_at pose_within
   gaps t = and-eq-true_iff _ _
 
-  -- "a pair passes exactly if the old test passes and the tip and axis gaps at one quarter and three quarters are within
-  -- the same tolerances", with its exception
+  -- "a pair passes exactly if the old test passes and the tip and axis gaps at one quarter and three quarters are
+  -- within the same tolerances", with its exception
   pub exactly : (segment_within p (strictly tol) left right ≡ true)
       ↔ ((segment_within p (plain tol) left right ≡ true)
-      × ((unchanged ≡ true) ⊎ ((withinAt p tol left right axis_left axis_right quarter ≡ true) × (withinAt p tol left right axis_left axis_right threeQuarters ≡ true))))
-  unfolding segment_within middle_within quartersWithin withinAt poseWithin
+      × ((unchanged ≡ true) ⊎ ((within_at p tol left right axis_left axis_right quarter ≡ true) × (within_at p tol left right axis_left axis_right three_quarters ≡ true))))
+  unfolding segment_within middle_within quarters_within within_at pose_within
   exactly =
       rw (
         portions_are p (strictly tol) left right axis_left axis_right,
         portions_are p (plain tol) left right axis_left axis_right,
       )
       (by_parts unchanged (middle_within tol left right axis_left axis_right (midpoint p left right))
-      (withinAt p tol left right axis_left axis_right quarter) (withinAt p tol left right axis_left axis_right threeQuarters))
+      (within_at p tol left right axis_left axis_right quarter) (within_at p tol left right axis_left axis_right three_quarters))
 
   -- "Excepted is what counts none in the old quotation: it passes": joints that do not differ
   pub excepted : unchanged ≡ true → segment_within p tol left right ≡ true

@@ -31,12 +31,15 @@ const OLD: &str = "#c40";
 const STRICT: &str = "#27a";
 
 fn main() -> Result<(), Refusal> {
-    let bend = Bend::new()?;
     match std::env::args().any(|word| word == "--svg") {
-        true => print!("{}", bend.picture()?),
-        false => bend.print()?,
+        true => print!("{}", picture()?),
+        false => Bend::new()?.print()?,
     }
     Ok(())
+}
+
+pub fn picture() -> Result<String, Refusal> {
+    Bend::new()?.picture()
 }
 
 fn chain() -> Chain {
@@ -165,13 +168,13 @@ impl Bend {
             "<svg xmlns=\"http://www.w3.org/2000/svg\" viewBox=\"0 0 860 400\" font-family=\"sans-serif\" font-size=\"13\">\n\
              <rect width=\"860\" height=\"400\" rx=\"6\" fill=\"#fff\"/>\n{}{}{}</svg>\n",
             text([40.0, 30.0], "start", &title),
-            self.from_above()?,
+            self.seen_from_above()?,
             self.gaps_on_the_way()?
         ))
     }
 
     /// The tip's way in the part, and both divided paths as chords.
-    fn from_above(&self) -> Result<String, Refusal> {
+    fn seen_from_above(&self) -> Result<String, Refusal> {
         let mut way = Vec::new();
         for i in 0..self.given.poses.len() - 1 {
             for step in 0..=STEPS {
