@@ -18,8 +18,8 @@
 /* The exports of the static library maztubel (`tools/archive maztubel` writes target/staticlib/libmaztubel.a).
  *
  * The rotary kinematics of a five-axis postprocessor, in millimetres and degrees; docs/CONVENTIONS.md has frames,
- * pivots, signs and worked machines. Link the library on x86-64 Linux; of the C library it uses only memcpy and
- * memset. It allocates nothing and keeps no pointer and no state, so calls may run on several threads at once.
+ * pivots, signs and worked machines. Link the library on x86-64 Linux; of the C library it uses only memcpy, memmove
+ * and memset. It allocates nothing and keeps no pointer and no state, so calls may run on several threads at once.
  *
  * Every function returns 0 and writes its outputs, or returns a refusal number and leaves them unchanged unless
  * stated. An output is kept if the call leaves it unchanged, and cleared if the call sets every number of it to
@@ -101,7 +101,8 @@ enum {
      * above 0 */
     MAZTUBEL_TOLERANCE = 19,
     /* buffers must hold whole records, lengths that belong together must be equal, a choice must be 0, 1 or 2, an index
-     * must be that of a joint set, the rotary that is asked for must be 0 or 1, and there must be 32 balances */
+     * must be that of a joint set, the rotary that is asked for must be 0 or 1, there must be 32 balances, a dispatcher
+     * must have 145 words and 368 numbers, and a turn must be lent outputs as long as those of the admission */
     MAZTUBEL_LENGTHS_DIFFER = 20,
     /* the rotaries must reach the tool axis */
     MAZTUBEL_NOT_REACHABLE = 21,
@@ -128,6 +129,10 @@ enum {
     MAZTUBEL_PARALLEL_ROTARIES = 30,
     /* on the nearest teeth every rotary must be within its limits, and the tool axis within the tolerance */
     MAZTUBEL_TOOTH_MISSES = 31,
+    /* a dispatcher must have at most 16 paths at a time */
+    MAZTUBEL_QUEUE_FULL = 32,
+    /* a path number must be that of an admitted path */
+    MAZTUBEL_NOT_ADMITTED = 33,
     /* a shop must be 0 to 31 */
     MAZTUBEL_UNKNOWN_SHOP = 34,
     /* a shop's balance must not be below the count of a division that is charged to it */
@@ -694,6 +699,89 @@ uint32_t maztubel_divide_for(uint64_t *balances, size_t balances_length, uint64_
                              size_t joints_length, double chord, double axis, double *out_poses, size_t out_poses_length,
                              double *out_joints, size_t out_joints_length, uint64_t *inserted, uint64_t *at,
                              uint8_t *letter);
+
+/* ---- Many paths in turns
+ *
+ * A dispatcher divides up to 16 paths side by side. Each path is admitted with outputs of its own and gets a number,
+ * and then waits. A turn serves the path that has waited longest: it gets 64 tests of two neighbours, with the poses
+ * that they insert, and waits again behind the others. A path ends with its last test, or with 27 or 28; one without
+ * two neighbours ends in its first turn. It then leaves, and its number is given again. So an unfinished path is served
+ * again within 16 turns that are not refused.
+ *
+ * The dispatcher's state is the caller's, and no call keeps anything else:
+ *
+ *   words    145 uint64_t
+ *   numbers  368 doubles
+ *
+ * All of them must be zero before the first call: that is a dispatcher without a path, and they are zero again whenever
+ * no path is left. What they hold in between is the library's, and only these calls may change it; a state that was
+ * changed by something else is refused or served, and does no harm beyond the outputs that are lent.
+ *
+ * The outputs of a path are lent to its admission and to each of its turns, and nowhere in between, so that they may be
+ * moved. Between two turns they hold the divided path as far as it is settled, at the front, and what the path still
+ * needs behind it. Where each turn finds them as the admission or the last turn left them, the path ends with the bits,
+ * the count and the refusal that maztubel_subdivide_path gives for it alone, whatever the other paths do. Where they
+ * hold something else the path comes to something else, and no other path is changed by it.
+ *
+ * In words: with all words and numbers zero, call maztubel_admit for each path, and keep its outputs under the number
+ * that it gets. Then call maztubel_next; if it says 16, no path is left; else call maztubel_turn with the outputs of
+ * that number, and where it says that the path has ended, its outputs hold the divided path. New paths may be admitted
+ * at any time. */
+
+/* Admits a path, under the smallest number from 0 to 15 that no admitted path has. Nothing is tested and nothing
+ * inserted yet.
+ *
+ *   chain, poses, joints               as in maztubel_subdivide_path; not needed afterwards
+ *   chord, axis                        as there, in mm and in degrees
+ *   out_poses, out_joints              outputs as there, of any length that is whole; the turns must be lent as many
+ *   path                               output of every call, the number; 16 with a refusal
+ *
+ * Refusals, all of which keep the state, and both outputs but where they are said to clear them:
+ *   20      the words are not 145 or the numbers not 368
+ *   32      16 paths are admitted, whatever else is at fault; also where word 144 of a changed state is above 16
+ *           the refusals of maztubel_subdivide_path before its first test: those that keep both outputs, and
+ *   28      there is no space for the given poses; clears both outputs */
+uint32_t maztubel_admit(uint64_t *words, size_t words_length, double *numbers, size_t numbers_length,
+                        const uint8_t *chain, size_t chain_length, const double *poses, size_t poses_length,
+                        const double *joints, size_t joints_length, double chord, double axis, double *out_poses,
+                        size_t out_poses_length, double *out_joints, size_t out_joints_length, uint64_t *path,
+                        uint64_t *at, uint8_t *letter);
+
+/* Which path is served next.
+ *
+ *   path  output of every call, the number of the path; 16 if no path is admitted, and with a refusal
+ *
+ * Refusals:
+ *   20  the words are not 145, or word 144 of a changed state is above 16 */
+uint32_t maztubel_next(const uint64_t *words, size_t words_length, uint64_t *path);
+
+/* Serves the path that has waited longest, in its outputs.
+ *
+ *   out_poses, out_joints  as the admission or the last turn left them, and as long
+ *   path                   output of every call, the number of the path that was served; 16 if none was
+ *   ended                  output of every call, 1 if the path has ended and left, else 0
+ *   inserted               output of every call, how many poses are inserted in it so far; 0 if none was served
+ *
+ * With no path admitted the turn returns 0, whatever outputs it is lent, and changes nothing. A path that has ended
+ * without a refusal has its divided path in the outputs, with +0.0 behind it.
+ *
+ * Refusals that keep the state and both outputs:
+ *   20  the words are not 145 or the numbers not 368, or word 144 is above 16; then the outputs are not as long as
+ *       those of the admission, or the path's entry in a changed state is none
+ * and that end the path, which leaves with both outputs cleared:
+ *   27  more than 10,000 poses would be inserted
+ *   28  there is no space for the next pose */
+uint32_t maztubel_turn(uint64_t *words, size_t words_length, double *numbers, size_t numbers_length, double *out_poses,
+                       size_t out_poses_length, double *out_joints, size_t out_joints_length, uint64_t *path,
+                       uint8_t *ended, uint64_t *inserted);
+
+/* How many poses are inserted so far in the path of a number.
+ *
+ *   inserted  output of every call; 0 with a refusal
+ *
+ * Refusals:
+ *   33  no admitted path has that number, whatever the words */
+uint32_t maztubel_count(const uint64_t *words, size_t words_length, uint64_t path, uint64_t *inserted);
 
 /* ---- Do links meet?
  *

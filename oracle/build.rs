@@ -41,7 +41,8 @@ impl RotaryLimits {
 /// Stands behind the copies of kinematics.rs, whose own text stays: how `solve_path` comes to one pose, told by its own
 /// steps, its loop over the poses with another rule inside the cone, `inverse`'s steps for one pair of angles, the
 /// clearance that it holds to the cone, the length that R-3 holds to 1e-9, the gaps that `segment_within` holds to the
-/// tolerances, at any part of the way, what that test says, and the midpoint that `fill` inserts.
+/// tolerances, at any part of the way, what that test says, the midpoint that `fill` inserts, one turn of the loop of
+/// `fill`, and the unit axes of a chain.
 const OF_A_POSE: &str = "
 #[derive(Clone, Copy, Debug, PartialEq)]
 pub(crate) enum Way {
@@ -169,6 +170,29 @@ impl Kinematics {
             return None;
         }
         Some((self.forward(&joints, PATH_TOOL_LENGTH).ok()?, joints))
+    }
+
+    /// What one test of two poses with their joints comes to, by the steps of `fill`: the midpoint, where they divide.
+    pub(crate) fn one_test(
+        &self,
+        left: (ToolPose, Joints),
+        right: (ToolPose, Joints),
+        [chord_tol_mm, axis_tol_deg]: [f64; 2],
+    ) -> Result<Option<(ToolPose, Joints)>> {
+        let job = Subdiv { kin: self, toolpath: \"p\", chord_tol_mm, axis_tol_deg, inserted: 0 };
+        if job.segment_within(left.0, left.1, right.0, right.1)? {
+            return Ok(None);
+        }
+        let mid_joints = lerp_joints(left.1, right.1, 0.5);
+        if joints_unchanged(mid_joints, left.1) || joints_unchanged(mid_joints, right.1) {
+            return Ok(None);
+        }
+        Ok(Some((self.forward(&mid_joints, PATH_TOOL_LENGTH)?, mid_joints)))
+    }
+
+    /// The unit vector of an axis of a chain that was checked.
+    pub(crate) fn unit(axis: Vec3) -> Vec3 {
+        unit_direction(axis).unwrap_or(axis)
     }
 
     /// Whether `sp1` and `sp2` let an axis by, which the test of the axis that is reached may refuse.

@@ -8,6 +8,16 @@ pub mod cables;
 #[cfg(original)]
 pub mod calls;
 pub mod cases;
+#[cfg(original)]
+pub mod cell_calls;
+#[cfg(all(test, original))]
+mod cell_faults;
+#[cfg(original)]
+pub mod cell_paths;
+#[cfg(original)]
+pub mod cell_rows;
+#[cfg(original)]
+pub mod cell_tally;
 pub mod chains;
 #[cfg(original)]
 pub mod courses;
@@ -87,6 +97,8 @@ pub mod remarkable;
 pub mod replayed;
 #[cfg(original)]
 pub mod replayed_calls;
+#[cfg(original)]
+pub mod replayed_cells;
 pub mod replayed_extremes;
 pub mod replayed_functions;
 #[cfg(original)]

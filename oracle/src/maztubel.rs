@@ -556,6 +556,77 @@ pub fn divide_for(
     }
 }
 
+/// The state of a dispatcher.
+pub struct Dispatcher<'a> {
+    pub words: &'a mut [u64],
+    pub numbers: &'a mut [f64],
+}
+
+/// The outputs are poses and joints.
+pub fn admit(
+    state: Dispatcher,
+    solved: Solved,
+    tolerances: [f64; 2],
+    [out_poses, out_joints]: [&mut [f64]; 2],
+    path: &mut u64,
+    (at, letter): (&mut u64, &mut u8),
+) -> u32 {
+    unsafe {
+        maztubel_admit(
+            state.words.as_mut_ptr(),
+            state.words.len(),
+            state.numbers.as_mut_ptr(),
+            state.numbers.len(),
+            solved.chain.as_ptr(),
+            solved.chain.len(),
+            solved.poses.as_ptr(),
+            solved.poses.len(),
+            solved.joints.as_ptr(),
+            solved.joints.len(),
+            tolerances[0],
+            tolerances[1],
+            out_poses.as_mut_ptr(),
+            out_poses.len(),
+            out_joints.as_mut_ptr(),
+            out_joints.len(),
+            path,
+            at,
+            letter,
+        )
+    }
+}
+
+pub fn next(words: &[u64], path: &mut u64) -> u32 {
+    unsafe { maztubel_next(words.as_ptr(), words.len(), path) }
+}
+
+/// Lent are the path's number, whether it has ended, and its count.
+pub fn turn(
+    state: Dispatcher,
+    [out_poses, out_joints]: [&mut [f64]; 2],
+    (path, ended, inserted): (&mut u64, &mut u8, &mut u64),
+) -> u32 {
+    unsafe {
+        maztubel_turn(
+            state.words.as_mut_ptr(),
+            state.words.len(),
+            state.numbers.as_mut_ptr(),
+            state.numbers.len(),
+            out_poses.as_mut_ptr(),
+            out_poses.len(),
+            out_joints.as_mut_ptr(),
+            out_joints.len(),
+            path,
+            ended,
+            inserted,
+        )
+    }
+}
+
+pub fn count(words: &[u64], path: u64, inserted: &mut u64) -> u32 {
+    unsafe { maztubel_count(words.as_ptr(), words.len(), path, inserted) }
+}
+
 /// Lent are found, the pose and the two links.
 pub fn links_meet(
     machine: Machine,

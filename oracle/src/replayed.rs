@@ -17,8 +17,11 @@ const MOST_NUMBERS: usize = 128;
 const MOST_ROOMS: [usize; 2] = [256, 128];
 const LONG_ROOMS: [usize; 2] = [60_012, 50_010];
 
+/// The same where a path is divided in turns, whose outputs go from case to case: a turn has them among its numbers.
+const TURN_ROOMS: [usize; 2] = [330, 275];
+
 /// Every entry, by its number in a case.
-pub const ENTRIES: [&str; 28] = [
+pub const ENTRIES: [&str; 32] = [
     "check_chain",
     "forward",
     "check_model",
@@ -47,6 +50,10 @@ pub const ENTRIES: [&str; 28] = [
     "links_meet",
     "subdivide_strict",
     "quote_strict",
+    "admit",
+    "next",
+    "turn",
+    "count",
 ];
 
 /// What a call is given: the choice or the rotary; the bytes of a chain or of a job; a name, a model and a carrier; two slices of
@@ -62,11 +69,16 @@ pub struct Given<'a> {
 
 impl Given<'_> {
     fn fits(&self, entry: usize, number: u32) -> bool {
-        let fit = |numbers: &&[f64]| numbers.len() <= MOST_NUMBERS;
         let most = match (ENTRIES[entry], number) {
+            ("admit" | "turn", _) => TURN_ROOMS,
             ("quote" | "quote_strict", _) | (_, 27) => LONG_ROOMS,
             _ => MOST_ROOMS,
         };
+        let most_numbers = match ENTRIES[entry] {
+            "turn" => TURN_ROOMS[0],
+            _ => MOST_NUMBERS,
+        };
+        let fit = |numbers: &&[f64]| numbers.len() <= most_numbers;
         let [first, second] = [0, 1].map(|i| self.rooms[i] <= most[i]);
         self.numbers.iter().all(fit) && first && second
     }

@@ -275,6 +275,19 @@ macro_rules! on_plain_numbers {
                 ])
             }
 
+            /// The six numbers of a pose and the five of its joints.
+            pub fn item_numbers((pose, joints): (ToolPose, Joints)) -> ([f64; 6], [f64; 5]) {
+                let (tip, axis) = (pose.tip, pose.axis);
+                let pose = [tip.x(), tip.y(), tip.z(), axis.x(), axis.y(), axis.z()];
+                (pose, set_numbers(joints))
+            }
+
+            /// The unit vector of an axis.
+            pub fn unit(axis: &[f64; 3]) -> [f64; 3] {
+                let unit = Kinematics::unit(vector(axis));
+                [unit.x(), unit.y(), unit.z()]
+            }
+
             fn of_frame(frame: Rigid) -> Vec<f64> {
                 let axes = [frame.axis_x(), frame.axis_y(), frame.axis_z()];
                 numbers(&[frame.origin(), axes[0], axes[1], axes[2]])

@@ -1,6 +1,7 @@
 //! All comparisons in one, as long as there is time: a round of parts that take about as long, each of one family of entries and with
 //! a generator of its own; and now and then the few cases that take longer.
 
+use crate::cell_tally::Cells;
 use crate::exact::Sums;
 use crate::extremes_tally::Extremes;
 use crate::insertions::Insertions;
@@ -36,6 +37,7 @@ pub struct Soak {
     writes: WriteTally,
     extremes: Extremes,
     quotas: Quotas,
+    cells: Cells,
     teeth: Teeth,
     meetings: Meetings,
 }
@@ -43,7 +45,7 @@ pub struct Soak {
 type Part = fn(&mut Soak, &mut Random);
 
 /// Of the parts six divide, half of the time each of the two entries, and three solve paths: their calls take longest.
-const ROUND: [Part; 27] = [
+const ROUND: [Part; 28] = [
     Soak::waves,
     Soak::chains,
     Soak::inverses,
@@ -69,13 +71,14 @@ const ROUND: [Part; 27] = [
     Soak::quotes,
     Soak::stricts,
     Soak::quotas,
+    Soak::cells,
     Soak::teeth,
     Soak::meetings,
 ];
 
 /// One round in so many, the second of them first, has the cases that take longer.
 const ROUNDS: u64 = 32;
-const LONG: [Part; 9] = [
+const LONG: [Part; 10] = [
     Soak::long_paths,
     Soak::exact_divisions,
     Soak::long_divisions,
@@ -84,6 +87,7 @@ const LONG: [Part; 9] = [
     Soak::exact_quotes,
     Soak::exact_stricts,
     Soak::many_quotas,
+    Soak::many_cells,
     Soak::long_meetings,
 ];
 
@@ -100,6 +104,7 @@ impl Outcome for Soak {
         self.writes.add(more.writes);
         self.extremes.add(more.extremes);
         self.quotas.add(more.quotas);
+        self.cells.add(more.cells);
         self.teeth.add(more.teeth);
         self.meetings.add(more.meetings);
     }
@@ -166,6 +171,10 @@ impl Soak {
         self.quotas.compare_drawn(40, random);
     }
 
+    fn cells(&mut self, random: &mut Random) {
+        self.cells.compare_drawn(150, random);
+    }
+
     fn teeth(&mut self, random: &mut Random) {
         self.teeth.compare_drawn(8_000, random);
     }
@@ -208,11 +217,15 @@ impl Soak {
         self.quotas.compare_many(random);
     }
 
+    fn many_cells(&mut self, random: &mut Random) {
+        self.cells.compare_many(random);
+    }
+
     fn long_meetings(&mut self, random: &mut Random) {
         self.meetings.compare_long(random);
     }
 
-    fn families(&self) -> [&dyn Account; 13] {
+    fn families(&self) -> [&dyn Account; 14] {
         let Soak {
             waves,
             chains,
@@ -225,12 +238,13 @@ impl Soak {
             quotes,
             stricts,
             quotas,
+            cells,
             teeth,
             meetings,
         } = self;
         [
             waves, chains, inverses, paths, divisions, jobs, writes, extremes, quotes, stricts,
-            quotas, teeth, meetings,
+            quotas, cells, teeth, meetings,
         ]
     }
 

@@ -19,8 +19,8 @@ pub struct Told {
     pub at: u64,
     /// With 24 the rotary's letter, else 0.
     pub letter: u8,
-    /// How many joint sets `inverse` has, how many poses were inserted, or how many bytes `write_job` wrote; of the
-    /// other calls 0.
+    /// How many joint sets `inverse` has, how many poses were inserted, by `turn` and `count` so far, or how many bytes
+    /// `write_job` wrote; of the other calls 0.
     pub count: u64,
 }
 
@@ -82,15 +82,15 @@ unsafe impl Record for Frame {}
 pub(crate) fn numbers<R: Record>(records: &[R]) -> &[f64] {
     // SAFETY: here and below, the records are nothing but f64 without padding, as many as fill their size, and every bit pattern is
     // one; the borrow goes over.
-    unsafe { slice::from_raw_parts(records.as_ptr().cast(), count::<R>(records)) }
+    unsafe { slice::from_raw_parts(records.as_ptr().cast(), length::<R>(records)) }
 }
 
 pub(crate) fn numbers_mut<R: Record>(records: &mut [R]) -> &mut [f64] {
-    let count = count::<R>(records);
-    unsafe { slice::from_raw_parts_mut(records.as_mut_ptr().cast(), count) }
+    let length = length::<R>(records);
+    unsafe { slice::from_raw_parts_mut(records.as_mut_ptr().cast(), length) }
 }
 
-fn count<R>(records: &[R]) -> usize {
+fn length<R>(records: &[R]) -> usize {
     size_of_val(records) / size_of::<f64>()
 }
 
@@ -980,6 +980,127 @@ pub fn divide_for(
             &mut told.letter,
         )
     };
+    told
+}
+
+/// Admits a path to a dispatcher of 145 words and 368 numbers, all zero while it has no path: its number from 0 to 15.
+/// 20 where the state has another length, 32 where 16 paths are admitted, whatever else is at fault, then the refusals
+/// of [`subdivide_path`] before its first test. With all of them the number is 16, and they keep the state, and both
+/// outputs but for 28, which clears them.
+///
+/// ```
+/// use maztubel::flat;
+/// let (mut words, mut numbers) = ([0; 145], [0.0; 368]);
+/// let mut path = 9;
+/// let told = flat::admit(&mut words, &mut numbers, &[0], &[], &[], 1.0, 1.0, &mut [], &mut [], &mut path);
+/// assert_eq!((told.number, path), (3, 16));
+/// words[144] = 16;
+/// let told = flat::admit(&mut words, &mut numbers, &[0], &[], &[], 1.0, 1.0, &mut [0.0], &mut [], &mut path);
+/// assert_eq!((told.number, path), (32, 16));
+/// ```
+pub fn admit(
+    words: &mut [u64],
+    numbers: &mut [f64],
+    chain: &[u8],
+    poses: &[f64],
+    joints: &[f64],
+    chord: f64,
+    axis: f64,
+    out_poses: &mut [f64],
+    out_joints: &mut [f64],
+    path: &mut u64,
+) -> Told {
+    let mut told = Told::default();
+    told.number = unsafe {
+        maztubel_admit(
+            words.as_mut_ptr(),
+            words.len(),
+            numbers.as_mut_ptr(),
+            numbers.len(),
+            chain.as_ptr(),
+            chain.len(),
+            poses.as_ptr(),
+            poses.len(),
+            joints.as_ptr(),
+            joints.len(),
+            chord,
+            axis,
+            out_poses.as_mut_ptr(),
+            out_poses.len(),
+            out_joints.as_mut_ptr(),
+            out_joints.len(),
+            path,
+            &mut told.at,
+            &mut told.letter,
+        )
+    };
+    told
+}
+
+/// Which path of a dispatcher is served next; 16 where it has none, and with 20, where there are not 145 words.
+///
+/// ```
+/// use maztubel::flat;
+/// let mut path = 9;
+/// assert_eq!((flat::next(&[0; 144], &mut path).number, path), (20, 16));
+/// assert_eq!((flat::next(&[0; 145], &mut path).number, path), (0, 16));
+/// ```
+pub fn next(words: &[u64], path: &mut u64) -> Told {
+    let number = unsafe { maztubel_next(words.as_ptr(), words.len(), path) };
+    Told {
+        number,
+        ..Told::default()
+    }
+}
+
+/// Serves the path that has waited longest, in its outputs: its number, 1 where it has ended, and how many poses are
+/// inserted in it so far. Without a path the number is 16, and nothing changes; so it is with 20, where the state or the
+/// outputs have another length. 27 and 28 end the path and clear its outputs.
+///
+/// ```
+/// use maztubel::flat;
+/// let (mut words, mut numbers) = ([0; 145], [0.0; 368]);
+/// let (mut path, mut ended) = (9, 9);
+/// let told = flat::turn(&mut words, &mut numbers, &mut [1.0], &mut [], &mut path, &mut ended);
+/// assert_eq!((told.number, path, ended), (0, 16, 0));
+/// ```
+pub fn turn(
+    words: &mut [u64],
+    numbers: &mut [f64],
+    out_poses: &mut [f64],
+    out_joints: &mut [f64],
+    path: &mut u64,
+    ended: &mut u8,
+) -> Told {
+    let mut told = Told::default();
+    told.number = unsafe {
+        maztubel_turn(
+            words.as_mut_ptr(),
+            words.len(),
+            numbers.as_mut_ptr(),
+            numbers.len(),
+            out_poses.as_mut_ptr(),
+            out_poses.len(),
+            out_joints.as_mut_ptr(),
+            out_joints.len(),
+            path,
+            ended,
+            &mut told.count,
+        )
+    };
+    told
+}
+
+/// How many poses are inserted so far in the path of a number: 33 where no admitted path has it, whatever the words.
+///
+/// ```
+/// use maztubel::flat;
+/// assert_eq!(flat::count(&[0; 145], 0).number, 33);
+/// assert_eq!(flat::count(&[], 16).number, 33);
+/// ```
+pub fn count(words: &[u64], path: u64) -> Told {
+    let mut told = Told::default();
+    told.number = unsafe { maztubel_count(words.as_ptr(), words.len(), path, &mut told.count) };
     told
 }
 

@@ -35,6 +35,7 @@
 #![deny(unsafe_code)]
 #![warn(missing_docs)]
 
+mod cell;
 mod chain;
 mod extremes;
 #[allow(unsafe_code, clippy::too_many_arguments)]
@@ -52,6 +53,7 @@ pub mod raw;
 mod refusal;
 mod trig;
 
+pub use cell::{Cell, MOST_PATHS, Standing, Turned};
 pub use chain::{Carrier, Chain, Limits, Rotary, check_chain, forward};
 pub use extremes::{Extremes, GROUP};
 pub use inverse::{Choice, MOST_SOLUTIONS, choose, choose_tooth, inverse};

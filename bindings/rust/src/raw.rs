@@ -371,6 +371,47 @@ unsafe extern "C" {
         at: &mut u64,
         letter: &mut u8,
     ) -> u32;
+    pub fn maztubel_admit(
+        words: *mut u64,
+        words_length: usize,
+        numbers: *mut f64,
+        numbers_length: usize,
+        chain: *const u8,
+        chain_length: usize,
+        poses: *const f64,
+        poses_length: usize,
+        joints: *const f64,
+        joints_length: usize,
+        chord: f64,
+        axis: f64,
+        out_poses: *mut f64,
+        out_poses_length: usize,
+        out_joints: *mut f64,
+        out_joints_length: usize,
+        path: &mut u64,
+        at: &mut u64,
+        letter: &mut u8,
+    ) -> u32;
+    pub fn maztubel_next(words: *const u64, words_length: usize, path: &mut u64) -> u32;
+    pub fn maztubel_turn(
+        words: *mut u64,
+        words_length: usize,
+        numbers: *mut f64,
+        numbers_length: usize,
+        out_poses: *mut f64,
+        out_poses_length: usize,
+        out_joints: *mut f64,
+        out_joints_length: usize,
+        path: &mut u64,
+        ended: &mut u8,
+        inserted: &mut u64,
+    ) -> u32;
+    pub fn maztubel_count(
+        words: *const u64,
+        words_length: usize,
+        path: u64,
+        inserted: &mut u64,
+    ) -> u32;
     pub fn maztubel_links_meet(
         name: *const u8,
         name_length: usize,

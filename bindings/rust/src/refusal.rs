@@ -96,7 +96,8 @@ reasons! {
          and above 0";
     LengthsDiffer = 20,
         "buffers must hold whole records, lengths that belong together must be equal, a choice must be 0, 1 or 2, an \
-         index must be that of a joint set, the rotary that is asked for must be 0 or 1, and there must be 32 balances";
+         index must be that of a joint set, the rotary that is asked for must be 0 or 1, there must be 32 balances, a \
+         dispatcher must have 145 words and 368 numbers, and a turn must be lent outputs as long as those of the admission";
     NotReachable = 21, "the rotaries must reach the tool axis";
     OutsideLimits = 22,
         "the rotaries must reach the tool axis within their limits, without limits above -180 and at most 180 \
@@ -115,6 +116,8 @@ reasons! {
     ParallelRotaries = 30,
         "on a path two rotaries must not be parallel: the cross product of their unit axes must have a length of at \
          least 1e-9";
+    QueueFull = 32, "a dispatcher must have at most 16 paths at a time";
+    NotAdmitted = 33, "a path number must be that of an admitted path";
     UnknownShop = 34, "a shop must be 0 to 31";
     BalanceShort = 35, "a shop's balance must not be below the count of a division that is charged to it";
     ToothMisses = 31,

@@ -39,7 +39,7 @@ const NAME: &[u8] = b"mill";
 type OfAChain = (&'static str, fn(&[u8]) -> Told);
 
 /// Every entry that reads a chain, the rest sound.
-const OF_A_CHAIN: [OfAChain; 18] = [
+const OF_A_CHAIN: [OfAChain; 19] = [
     ("check_chain", flat::check_chain),
     ("forward", |chain| {
         flat::forward(chain, &JOINTS, 10.0, &mut [0.0; 6])
@@ -79,6 +79,14 @@ const OF_A_CHAIN: [OfAChain; 18] = [
         let (poses, joints) = (&mut [0.0; 6], &mut [0.0; 5]);
         let quota = &mut [0; 32];
         flat::divide_for(quota, 31, chain, &POSE, &JOINTS, 1.0, 1.0, poses, joints)
+    }),
+    ("admit", |chain| {
+        let (poses, joints) = (&mut [0.0; 6], &mut [0.0; 5]);
+        let (words, numbers) = (&mut [0; 145], &mut [0.0; 368]);
+        let path = &mut 0;
+        flat::admit(
+            words, numbers, chain, &POSE, &JOINTS, 1.0, 1.0, poses, joints, path,
+        )
     }),
     ("solve_and_divide", |chain| {
         let (poses, joints) = (&mut [0.0; 6], &mut [0.0; 5]);

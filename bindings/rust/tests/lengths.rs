@@ -516,3 +516,118 @@ fn of_links_meet() {
     let joints = vec![1.0, 2.0, 3.0, 40.0, 50.0];
     every_length(&[joints], &[], ask, &|l| l[0].is_multiple_of(5));
 }
+
+/// A slice of numbers as words, by their bits.
+fn words(numbers: &[f64]) -> &[u64] {
+    // SAFETY: as above.
+    unsafe { slice::from_raw_parts(numbers.as_ptr().cast(), numbers.len()) }
+}
+
+/// Two poses with joints for them.
+fn pair() -> [Vec<f64>; 2] {
+    let joints = vec![0.0, 0.0, 50.0, 0.0, 0.0, 1.0, 0.0, 50.0, 10.0, 0.0];
+    [pose_numbers(&arc(2)), joints]
+}
+
+/// A dispatcher with a path in outputs of 5 poses: its words, by their bits, and its numbers.
+fn with_a_path() -> [Vec<f64>; 2] {
+    let (mut words, mut numbers) = ([0; 145], vec![0.0; 368]);
+    let [poses, joints] = pair();
+    let told = flat::admit(
+        &mut words,
+        &mut numbers,
+        &tables().bytes(),
+        &poses,
+        &joints,
+        0.01,
+        1.0,
+        &mut [0.0; 30],
+        &mut [0.0; 25],
+        &mut 0,
+    );
+    assert_eq!(told.number, 0);
+    [words.map(f64::from_bits).to_vec(), numbers]
+}
+
+/// Without a path beforehand.
+#[test]
+fn of_admit() {
+    let chain = tables().bytes();
+    let whole = |l: &[usize]| {
+        l[0].is_multiple_of(6)
+            && l[1].is_multiple_of(5)
+            && l[0] / 6 == l[1] / 5
+            && l[2..4] == [145, 368]
+            && l[4].is_multiple_of(6)
+            && l[5].is_multiple_of(5)
+    };
+    let ask: Ask = &|r, w| {
+        let [words, numbers, poses, joints] = w else {
+            unreachable!()
+        };
+        let state = [vec![0.0; words.len()], vec![0.0; numbers.len()]];
+        in_a_state(&state, words, numbers, |words, numbers| {
+            flat::admit(
+                words, numbers, &chain, r[0], r[1], 0.01, 1.0, poses, joints, &mut 0,
+            )
+        })
+    };
+    every_length(&pair(), &[145, 368, 90, 75], ask, &whole);
+}
+
+#[test]
+fn of_next() {
+    let [state, _] = with_a_path();
+    let ask: Ask = &|r, _| flat::next(words(r[0]), &mut 0);
+    every_length(&[state], &[], ask, &|l| l == [145]);
+}
+
+/// Calls with the front of a state in the lent words and numbers. A 20 keeps it, and then leaves them as they were lent.
+fn in_a_state(
+    state: &[Vec<f64>; 2],
+    words: &mut [f64],
+    numbers: &mut [f64],
+    call: impl FnOnce(&mut [u64], &mut [f64]) -> Told,
+) -> Told {
+    let front = |lent: &[f64], part: usize| lent.len().min(state[part].len());
+    let fronts = [front(words, 0), front(numbers, 1)];
+    words[..fronts[0]].copy_from_slice(&state[0][..fronts[0]]);
+    numbers[..fronts[1]].copy_from_slice(&state[1][..fronts[1]]);
+    let told = call(balances(words), numbers);
+    if told.number == 20 {
+        assert_eq!(bits(&words[..fronts[0]]), bits(&state[0][..fronts[0]]));
+        assert_eq!(bits(&numbers[..fronts[1]]), bits(&state[1][..fronts[1]]));
+        words.fill(BEFORE);
+        numbers.fill(BEFORE);
+    }
+    told
+}
+
+/// The path that waits was admitted with 5 poses' space.
+#[test]
+fn of_turn() {
+    let before = with_a_path();
+    let ask: Ask = &|_, w| {
+        let [words, numbers, poses, joints] = w else {
+            unreachable!()
+        };
+        in_a_state(&before, words, numbers, |words, numbers| {
+            flat::turn(words, numbers, poses, joints, &mut 0, &mut 0)
+        })
+    };
+    let whole = |l: &[usize]| l == [145, 368, 30, 25];
+    every_length(&[], &[145, 368, 30, 25], ask, &whole);
+}
+
+/// 33 stands for every other length.
+#[test]
+fn of_count() {
+    let [state, _] = with_a_path();
+    let ask: Ask = &|r, _| {
+        let told = flat::count(words(r[0]), 0);
+        assert!([0, 33].contains(&told.number));
+        let number = if told.number == 33 { 20 } else { 0 };
+        Told { number, ..told }
+    };
+    every_length(&[state], &[], ask, &|l| l == [145]);
+}

@@ -97,7 +97,7 @@ joints_flat : (k : ℕ) (poses joints : List Float) → k * 5 ≤ length joints 
 unfolding items_in
 joints_flat k poses joints h = flat_seconds pose_codec joints_codec item k poses joints (λ (t : Item). t.joints) (λ x y. refl) h
 
-left_by : (answer : Answer Item) (space : ℕ) (poses₀ joints₀ poses joints : List Float) {poses' joints' : List Float} {said : Divided} (r : Turn) → RanTo answer space poses joints r
+pub left_by : (answer : Answer Item) (space : ℕ) (poses₀ joints₀ poses joints : List Float) {poses' joints' : List Float} {said : Divided} (r : Turn) → RanTo answer space poses joints r
     → length poses ≡ length poses₀ → length joints ≡ length joints₀ → space * 6 ≤ length poses → space * 5 ≤ length joints
     → said ≡ answer_in r → poses' ≡ padded (length poses) nought (take (staying r * 6) poses) → joints' ≡ padded (length joints) nought (take (staying r * 5) joints)
     → (said ≡ divided_in answer) × ((poses' ≡ poses_over answer poses₀) × (joints' ≡ joints_over answer joints₀))

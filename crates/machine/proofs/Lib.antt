@@ -1,4 +1,4 @@
-pub mod Runs
+pub mod Alone
 pub mod Bringing
 pub mod Divides
 pub mod Copies

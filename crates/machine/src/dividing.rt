@@ -10,6 +10,7 @@ ghost use Rattle.machine.specs.Dividing as S;
 
 use chain::Prepared;
 use geometry::Vec3;
+use slice::run_some;
 use turn::{GivenPath, Machine, Outputs, Setting, Stop, axis_at};
 
 // Brings all items but the first from the front to the end of the space. That there is an item and that all have space
@@ -54,18 +55,14 @@ fn begin(p: Prepared, count: usize, had: u64, out: &Outputs) -> Machine
     }
 }
 
-// Turn after turn, until nothing waits or one is refused.
+// Turn after turn, until nothing waits or one is refused: no outputs have work for so many turns. By the loop that a
+// part of a division takes too, so that a turn stands in one place of the compiled program.
 pub fn run(by: &Setting, m: Machine, out: &mut Outputs) -> Result<Machine, Stop>
     requires { S.Ready by.now.p by.now.tol out.old.space m out.old.poses.now out.old.joints.now }
     ensures same { Same out.old out.new }
     ensures ran { S.Ran (S.halved_from by.now.p by.now.tol out.old.space m out.old.poses.now out.old.joints.now) out.old.space out.new.poses.now out.new.joints.now result }
 {
-    let mut state = m;
-    // Until nothing waits: how many turns that takes is not known before.
-    while state.waiting < out.space {
-        state = state.advance(by, out)?;
-    }
-    Ok(state)
+    run_some(by, m, usize::MAX, out)
 }
 
 fn staying(turn: Result<Machine, Stop>) -> usize
@@ -81,7 +78,7 @@ fn answer_in(turn: Result<Machine, Stop>) -> Result<u64, Stop>
 }
 
 // What is not placed is +0.0; after a refusal, everything.
-fn close(turn: Result<Machine, Stop>, out: &mut Outputs) -> Result<u64, Stop>
+pub fn close(turn: Result<Machine, Stop>, out: &mut Outputs) -> Result<u64, Stop>
     requires { S.staying turn ≤ out.old.space }
     ensures answer { result ≡ S.answer_in turn }
     ensures lent { Left out.old (padded (length out.old.poses.now) nought (take (S.staying turn * 6) out.old.poses.now)) (padded (length out.old.joints.now) nought (take (S.staying turn * 5) out.old.joints.now)) out.new }

@@ -7,7 +7,7 @@
 mod dividing;
 mod filling;
 
-pub use dividing::{divide_given, divide_solved};
+pub use dividing::{close, divide_given, divide_solved};
 pub use filling::{fill, fill_pair};
 use middle::Tolerances;
 

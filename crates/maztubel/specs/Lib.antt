@@ -11,6 +11,7 @@ pub mod JobEntries
 pub mod WriteEntries
 pub mod ExtremesEntries
 pub mod QuotaEntries
+pub mod CellEntries
 pub mod MeetEntries
 pub mod Steps
 pub mod Examples

@@ -6,11 +6,12 @@
 // writes the first answer, so that a refusal leaves the slice as it was. The entries of a chain stand in chain_entries,
 // those of the inverse map in inverse_entries, that of the positioning profile in tooth_entries, those of a model in
 // link_entries, the one that asks whether links meet in meet_entries, that of a path in path_entries, those that divide
-// in divide_entries, those that quote a division in quote_entries, those of quotas in quota_entries, those of a job
-// in job_entries, the one that writes a job in write_entries, those of the extremes beside a path in extremes_entries;
-// a crate above calls all of them from here.
+// in divide_entries, those that quote a division in quote_entries, those of quotas in quota_entries, those of a cell's
+// dispatcher in cell_entries, those of a job in job_entries, the one that writes a job in write_entries, those of the
+// extremes beside a path in extremes_entries; a crate above calls all of them from here.
 #![tactic(auto)]
 
+mod cell_entries;
 mod chain_entries;
 mod divide_entries;
 mod extremes_entries;
@@ -34,6 +35,7 @@ ghost use Rattle.lists.specs.Rows.{paired};
 ghost use Rattle.maztubel.specs.Lent as Lent;
 ghost use Rattle.maztubel.specs.Answers.{number_of, written_over, refuses, same_length, number_of_all, all_written_over, EachRight, EachPairRight};
 
+pub use cell_entries::{maztubel_admit, maztubel_count, maztubel_next, maztubel_turn};
 use chain::demand;
 pub use chain_entries::{maztubel_check_chain, maztubel_forward};
 pub use divide_entries::{

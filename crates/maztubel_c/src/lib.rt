@@ -4,6 +4,7 @@
 // `maztubel`.
 #![tactic(auto)]
 
+mod cell_entries;
 mod chain_entries;
 mod divide_entries;
 mod extremes_entries;

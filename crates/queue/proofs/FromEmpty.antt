@@ -11,35 +11,32 @@ use Rattle.lists.proofs.Each.{each_more}
 use Rattle.queue.specs.Queue
 use Rattle.queue.specs.Queue.{Outcome, Still, Over, Entering, Entered, Refused, Waiting, Call, Admit, Next, Turn, Count, has, smallest_free}
 use Rattle.queue.proofs.Numbers.{free_below}
-use Rattle.queue.proofs.Rows.{waits, Distinct, Place, Sound, Kept, sound_empty, sound_after, kept, served_within, ends_alone, last_place}
+use Rattle.queue.specs.Places.{waits, Distinct, Place, Kept, from_empty}
+use Rattle.queue.proofs.Rows.{Sound, sound_empty, sound_after, kept, served_within, ends_alone, last_place}
 
 module _ {E B I R : Type 0} (enter : I → B → Entering E) (fits : E → B → Bool) (serve : E → B → Outcome E R) where
   abbrev after : List (Waiting E) → Call I B → List (Waiting E)
   after = Queue.after enter fits serve
 
-  -- the paths that wait after a row of calls from an empty dispatcher
-  abbrev pub from_empty : List (Call I B) → List (Waiting E)
-  from_empty = Queue.after_all enter fits serve []
-
   sound_all : (row : List (Call I B)) (l : List (Waiting E)) → Sound enter fits serve l → Sound enter fits serve (Queue.after_all enter fits serve l row)
   sound_all [] l s = s
   sound_all (c ∷ row) l s = sound_all row (after l c) (sound_after enter fits serve l c s)
 
-  pub sound : (row : List (Call I B)) → Sound enter fits serve (from_empty row)
+  pub sound : (row : List (Call I B)) → Sound enter fits serve (from_empty enter fits serve row)
   sound row = sound_all row [] (sound_empty enter fits serve)
 
   -- "A cell divides up to 16 paths side by side"
-  pub at_most_sixteen : (row : List (Call I B)) → length (from_empty row) ≤ 16
+  pub at_most_sixteen : (row : List (Call I B)) → length (from_empty enter fits serve row) ≤ 16
   at_most_sixteen row = (sound row).few
 
   -- no two admitted paths have one number
-  pub numbers_once : (row : List (Call I B)) → Distinct (from_empty row)
+  pub numbers_once : (row : List (Call I B)) → Distinct (from_empty enter fits serve row)
   numbers_once row = (sound row).distinct
 
   -- "an unfinished path is served again within 16 turns that are not refused"
-  pub served_again : (row : List (Call I B)) (k i : ℕ) (e : E) → Place (from_empty row) k i e → (next : List (Call I B)) → 16 ≤ Queue.turns_in enter fits serve (from_empty row) next
-      → Queue.ServedIn enter fits serve k (from_empty row) next
-  served_again row = served_within enter fits serve (from_empty row) (sound row)
+  pub served_again : (row : List (Call I B)) (k i : ℕ) (e : E) → Place (from_empty enter fits serve row) k i e → (next : List (Call I B)) → 16 ≤ Queue.turns_in enter fits serve (from_empty enter fits serve row) next
+      → Queue.ServedIn enter fits serve k (from_empty enter fits serve row) next
+  served_again row = served_within enter fits serve (from_empty enter fits serve row) (sound row)
 
   -- "other contents change no other path": a call that does not serve path k keeps its number and its state, whatever
   -- it is lent
@@ -77,11 +74,11 @@ module _ {E B I R : Type 0} (enter : I → B → Entering E) (fits : E → B →
     each_all [] l h = h
     each_all (c ∷ row) l h = each_all row (after l c) (each_after l c h)
 
-    pub each_waits : (row : List (Call I B)) → Each P (from_empty row)
+    pub each_waits : (row : List (Call I B)) → Each P (from_empty enter fits serve row)
     each_waits row = each_all row [] tt
 
   -- "from 0 to 15"
-  pub numbers_below : (row : List (Call I B)) → Each (λ (w : Waiting E). w.number < 16) (from_empty row)
+  pub numbers_below : (row : List (Call I B)) → Each (λ (w : Waiting E). w.number < 16) (from_empty enter fits serve row)
   numbers_below = each_waits (λ (w : Waiting E). w.number < 16) (λ l i b e few is. free_below l few) (λ w b e p f is. p)
 
   -- ---- a path from its admission on
@@ -91,10 +88,10 @@ module _ {E B I R : Type 0} (enter : I → B → Entering E) (fits : E → B →
     admitted_last l i b e few is = rw (lt-ltb (length l) 16 few, is)
 
     -- "ends with the bits, count and refusal that it gets alone": c is what admission left in its buffers
-    pub admitted_alone : (row : List (Call I B)) (i : I) (b c d : B) (e : E) (next : List (Call I B)) (r : R) → length (from_empty row) < 16 → enter i b ≡ Entered e
-        → Queue.EndsIn enter fits serve left (smallest_free (from_empty row)) (after (from_empty row) (Admit i b)) c next r d → Queue.Alone enter fits serve left e c r d
+    pub admitted_alone : (row : List (Call I B)) (i : I) (b c d : B) (e : E) (next : List (Call I B)) (r : R) → length (from_empty enter fits serve row) < 16 → enter i b ≡ Entered e
+        → Queue.EndsIn enter fits serve left (smallest_free (from_empty enter fits serve row)) (after (from_empty enter fits serve row) (Admit i b)) c next r d → Queue.Alone enter fits serve left e c r d
     admitted_alone row i b c d e next r few is h =
-        let l = from_empty row in
+        let l = from_empty enter fits serve row in
         let z = admitted_last l i b e few is in
         let p : Place (after l (Admit i b)) (smallest_free l) (length l) e = subst (λ (m : List (Waiting E)). Place m (smallest_free l) (length l) e) (sym z) (last_place l (smallest_free l) e) in
         ends_alone enter fits serve left h (length l) e (sound_after enter fits serve l (Admit i b) (sound row)) p

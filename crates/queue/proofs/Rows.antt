@@ -1,5 +1,5 @@
 -- Rows of calls: a path keeps its place until it is served, is served within 16 turns, and ends as alone.
-use Prim.Native.Nat.{ℕ, suc, ◌+◌, ◌≤◌, ◌<◌}
+use Prim.Native.Nat.{ℕ, suc, ◌≤◌, ◌<◌}
 use native.Mathlib.Omega.{arith}
 use mathlib.Core.Path.{◌≡◌, refl, sym, ap, ◌∙◌, subst}
 use mathlib.Core.Bool.{Bool, true, false, cond, ◌||◌, true≢false}
@@ -11,10 +11,8 @@ use lib.ListN.{length, length-append}
 use Rattle.lists.specs.Search.{any}
 use Rattle.queue.specs.Queue
 use Rattle.queue.specs.Queue.{Outcome, Still, Over, Entering, Entered, Refused, Waiting, Call, Admit, Next, Turn, Count, has, smallest_free}
+use Rattle.queue.specs.Places.{waits, Distinct, Place, Kept}
 use Rattle.queue.proofs.Numbers.{free_not}
-
-abbrev pub waits : {E : Type 0} → ℕ → E → Waiting E
-waits k e = record { number = k; path = e }
 
 -- ---- each number once
 or_false : (a b : Bool) → (a || b) ≡ false → (a ≡ false) × (b ≡ false)
@@ -22,10 +20,6 @@ or_false true b h = absurd (true≢false h)
 or_false false b h = (refl, h)
 
 module _ {E : Type 0} where
-  abbrev pub Distinct : List (Waiting E) → Type 0
-  Distinct [] = Unit {0}
-  Distinct (w ∷ l) = (has l w.number ≡ false) × Distinct l
-
   has_snoc : (l : List (Waiting E)) (w : Waiting E) (k : ℕ) → has l k ≡ false → (w.number ≡ k → ⊥) → has (l ++ w ∷ []) k ≡ false
   unfolding has any
   has_snoc [] w k h d = rw (ne_eqb w.number k d)
@@ -50,13 +44,6 @@ module _ {E : Type 0} where
       go : (b : Bool) → has (p ++ w ∷ q) w.number ≡ true → (b || has (p ++ w ∷ q) w.number) ≡ true
       go true e = refl
       go false e = e
-
-  -- ---- path k with the state e waits at place i
-  pub record Place (l : List (Waiting E)) (k i : ℕ) (e : E) : Type 0 where
-    pub front : List (Waiting E)
-    pub back : List (Waiting E)
-    pub is : l ≡ front ++ waits k e ∷ back
-    pub long : length front ≡ i
 
   pub place_below : {l : List (Waiting E)} {k i : ℕ} {e : E} → Place l k i e → i < length l
   place_below {l} {k} {i} {e} p = let a = ap length p.is in let b = length-append p.front (waits k e ∷ p.back) in let c = p.long in omega arith
@@ -131,11 +118,6 @@ module _ {E B I R : Type 0} (enter : I → B → Entering E) (fits : E → B →
   sound_empty = record { distinct = tt; few = omega arith }
 
   -- ---- a call that does not serve path k keeps it, one place nearer with each turn
-  pub record Kept (l : List (Waiting E)) (c : Call I B) (k i : ℕ) (e : E) : Type 0 where
-    pub place : ℕ
-    pub nearer : place + turns l c ≡ i
-    pub there : Place (after l c) k place e
-
   requeued_place : (l : List (Waiting E)) (n : ℕ) (o : Outcome E R) {k i : ℕ} {e : E} → Place l k i e → Place (Queue.requeued enter fits serve l n o) k i e
   requeued_place l n (Still d) p = place_more (waits n d) p
   requeued_place l n (Over r) p = p
@@ -144,7 +126,7 @@ module _ {E B I R : Type 0} (enter : I → B → Entering E) (fits : E → B →
   joined_place l (Entered d) p = place_more (waits (smallest_free l) d) p
   joined_place l (Refused r) p = p
 
-  pub kept : (l : List (Waiting E)) (c : Call I B) (k i : ℕ) (e : E) → Place l k i e → serves l c k ≡ false → Kept l c k i e
+  pub kept : (l : List (Waiting E)) (c : Call I B) (k i : ℕ) (e : E) → Place l k i e → serves l c k ≡ false → Kept enter fits serve l c k i e
   kept l (Admit x b) k i e p h = record { place = i; nearer = omega arith; there = go (ltb (length l) 16) }
     where
       go : (t : Bool) → Place (cond t (Queue.joined enter fits serve l (enter x b)) l) k i e
@@ -155,7 +137,7 @@ module _ {E B I R : Type 0} (enter : I → B → Entering E) (fits : E → B →
   kept [] (Turn b) k i e p h = record { place = i; nearer = omega arith; there = p }
   kept (w ∷ l) (Turn b) k i e p h = go (fits w.path b) refl h (head_or w l k i e p)
     where
-      go : (t : Bool) → fits w.path b ≡ t → cond t (eqb w.number k) false ≡ false → ((w ≡ waits k e) × (i ≡ 0)) ⊎ ((j : ℕ) × ((i ≡ suc j) × Place l k j e)) → Kept (w ∷ l) (Turn b) k i e
+      go : (t : Bool) → fits w.path b ≡ t → cond t (eqb w.number k) false ≡ false → ((w ≡ waits k e) × (i ≡ 0)) ⊎ ((j : ℕ) × ((i ≡ suc j) × Place l k j e)) → Kept enter fits serve (w ∷ l) (Turn b) k i e
       go false f u v = record { place = i; nearer = rw f (omega arith); there = rw f p }
       go true f u (inl v) = absurd (eqb-false w.number k u (ap (λ (x : Waiting E). x.number) v.0))
       go true f u (inr (j, v)) =

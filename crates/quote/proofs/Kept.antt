@@ -1,5 +1,5 @@
--- What the machine keeps of its evaluations is what it would evaluate: at the start, when the first that waits stays, and
--- when a midpoint waits before it.
+-- What the machine keeps of its evaluations is what it would evaluate: at the start, when the first that waits stays,
+-- and when a midpoint waits before it.
 use Prim.Native.Nat.{ℕ, ◌+◌, ◌-◌, ◌*◌, ◌≤◌, ◌<◌}
 use mathlib.Core.Path.{◌≡◌, refl, sym, ap, ◌∙◌}
 use mathlib.Core.Bool.{Bool, true, false, cond}

@@ -1,5 +1,5 @@
--- The poses that are kept beside the stack: each is the one that its joint set reaches, at the start, where one more is put,
--- and where one is taken.
+-- The poses that are kept beside the stack: each is the one that its joint set reaches, at the start, where one more is
+-- put, and where one is taken.
 use Prim.Native.Nat.{ℕ, ◌+◌, ◌-◌, ◌*◌, ◌≤◌, ◌<◌}
 use native.Mathlib.Omega.{arith}
 use mathlib.Core.Path.{◌≡◌, refl, sym, ap, ◌∙◌, subst}

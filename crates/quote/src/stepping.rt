@@ -244,7 +244,14 @@ impl QuotedPath<'_> {
         ensures kept { S.KeptOf self.now.p stack.new tips.new (S.left_by result m.new) }
     {
         let left = m.place.left;
-        let said = verdict_with(&self.p, &self.tol, &left, &m.right, &m.left_axis, &m.right_axis);
+        let said = verdict_with(
+            &self.p,
+            &self.tol,
+            &left,
+            &m.right,
+            &m.left_axis,
+            &m.right_axis,
+        );
         let Some(middle) = said else {
             let tested = cost(self.tol, left, m.right);
             self.move_on(m, tested, stack, tips);

@@ -4,6 +4,7 @@
 #![tactic(auto)]
 
 mod cases;
+mod cells;
 mod entries;
 mod functions;
 mod paths;
@@ -104,6 +105,10 @@ fn call<W: Write>(
         25 => entries::links_meet(out, case, first),
         26 => paths::subdivide_strict(out, case, first, second, lent, other),
         27 => paths::quote_strict(out, case, first, second, lent, other),
+        28 => cells::admit(out, case, first, second, lent, other),
+        29 => cells::next(out, case),
+        30 => cells::turn(out, case, lent, other),
+        31 => cells::count(out, case),
         _ => writeln!(out, "unknown"),
     }
 }

@@ -29,7 +29,7 @@ mod sample {
     use oracle::exact::Sums;
     use oracle::random::Random;
     use oracle::replayed::Replayed;
-    use oracle::replayed_quotas;
+    use oracle::{replayed_cells, replayed_quotas};
     use oracle::{cases, inverse_cases};
     use oracle::{quotes, replayed_jobs, replayed_meetings, replayed_quotes, replayed_stricts};
     use oracle::{replayed_calls, replayed_extremes, replayed_functions};
@@ -58,6 +58,10 @@ mod sample {
     /// So many rows of grants and charged divisions there are, from a seed of their own.
     const ROWS: usize = 5;
     const QUOTAS: u64 = 11;
+
+    /// And of a dispatcher's calls.
+    const CELL_ROWS: usize = 3;
+    const CELLS: u64 = 10;
 
     /// How many bytes a case has with its line, mostly; and at most.
     const USUAL: usize = 1000;
@@ -323,6 +327,9 @@ mod sample {
         }
         let mut cases = replayed_quotas::rows(ROWS, &mut Random::new(QUOTAS));
         tell("quotas", &cases);
+        all.append(&mut cases);
+        let mut cases = replayed_cells::rows(CELL_ROWS, &mut Random::new(CELLS));
+        tell("cells", &cases);
         all.append(&mut cases);
         tell("all", &all);
         let stdin: Vec<u8> = all.iter().flat_map(|case| case.bytes.clone()).collect();

@@ -1,27 +1,25 @@
-use mathlib.Core.Path.{◌≡◌}
+use Prim.Native.Nat.{◌<◌}
 use borrow.Author.Rules.{rules}
-use Rattle.machine.proofs.Runs.{going_start, going_runs, going_on, going_less, going_same, going_stopped, going_end}
+use lib.ListN.{length}
+use Rattle.turn.proofs.Lent.{left_same}
+use Rattle.slice.proofs.Slices.{sliced_long}
+use Rattle.machine.proofs.Alone.{ends_at_once, enough}
 use Rattle.machine.proofs.dividing.run.Goals as goal
 
-pub loop-state-init : goal.loop-state-init
-loop-state-init c = going_start _ _ _ _ c.requires
-
-pub advance-requires : goal.advance-requires
-advance-requires c = going_runs _ _ _ _ c.loop-state.invariant c.loop-state-test.true
-
-pub loop-state-smaller : goal.loop-state-smaller
-loop-state-smaller c = going_less _ _ _ _ c.loop-state.invariant c.loop-state-test.true c.advance.ensures.turn c.advance.ensures.lent c.in_ok-state.was
-
-pub loop-state-preserved : goal.loop-state-preserved
-loop-state-preserved c = going_on _ _ _ _ c.loop-state.invariant c.loop-state-test.true c.advance.ensures.turn c.advance.ensures.lent c.in_ok-state.was
-
-pub returns-in_err-state : goal.returns-in_err-state
-returns-in_err-state c =
-    let e : c.from_residual.result ≡ c.advance.result = search rules in
-    record {
-      same = going_same _ _ _ _ c.loop-state.invariant c.loop-state-test.true c.advance.ensures.turn c.advance.ensures.lent;
-      ran = rw e (going_stopped _ _ _ _ c.loop-state.invariant c.loop-state-test.true c.advance.ensures.turn c.advance.ensures.lent _ c.in_err-state.was);
-    }
+pub run_some-requires : goal.run_some-requires
+run_some-requires c =
+    let r = c.requires in
+    record { some_placed = λ h. r.some_placed; apart = r.apart; waits = r.waits; given_last = r.cached.fewer; few = r.few }
 
 pub returns : goal.returns
-returns c = record { same = c.loop-state.invariant.same; ran = going_end _ _ _ _ c.loop-state.invariant c.loop-state-test.false }
+returns c =
+    let a = c.args in
+    let o = a.out.now in
+    let l = c.run_some.ensures.lent in
+    let long = sliced_long a.by.now.p a.by.now.tol o.space 18446744073709551615 a.m o.poses.now o.joints.now in
+    let fits : length o.poses.now < 18446744073709551616 = search rules in
+    record {
+      same = left_same l long.0 long.1;
+      ran = ends_at_once a.by.now.p a.by.now.tol o.space o.poses.now o.joints.now a.m c.requires (enough o.space a.m (length o.poses.now) c.requires.poses_long fits)
+          c.run_some.ensures.turn l.in_poses l.in_joints;
+    }

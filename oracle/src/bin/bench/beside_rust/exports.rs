@@ -2,7 +2,8 @@
 
 use super::finishing::CONE;
 use super::forwards::{TOOL_LENGTH, TWO_TABLES, chain};
-use oracle::maztubel::{self, Asked, Course, Lent, Machine, Parts, Scratch, Solved};
+use oracle::cell_calls::{NUMBERS, WORDS};
+use oracle::maztubel::{self, Asked, Course, Dispatcher, Lent, Machine, Parts, Scratch, Solved};
 use oracle::models::{self, BOX, Link};
 use oracle::quotes::{ENOUGH, Quote};
 
@@ -20,6 +21,8 @@ const THROUGH_THE_CONE: [[f64; 6]; 6] = [
 const TURNING_POSES: [[f64; 6]; 2] = [POSE, POSE];
 const TURNING_JOINTS: [[f64; 5]; 2] = [JOINTS, [120.0, -50.0, 20.0, 45.0, -40.0]];
 const TURNING_TOLERANCES: [f64; 2] = [1e6, 0.01];
+const TWO_POSES: [[f64; 6]; 2] = [POSE, [120.0, -40.0, 10.0, 0.2, 0.4, 0.8]];
+const TWO_SETS: [[f64; 5]; 2] = [JOINTS, [120.0, -40.0, 10.0, 35.0, -60.0]];
 const HINT: [f64; 2] = [10.0, 20.0];
 const ANGLES: [f64; 100] = [0.5; 100];
 /// All five turns of each angle lie within them.
@@ -37,6 +40,8 @@ pub struct Given {
     balances: [u64; 32],
     /// As much as a quotation is lent.
     scratch: Vec<f64>,
+    words: [u64; WORDS],
+    state: [f64; NUMBERS],
     count: u64,
     at: u64,
     letter: u8,
@@ -45,7 +50,7 @@ pub struct Given {
 /// With its name.
 type Export = (&'static str, fn(&mut Given) -> u32);
 
-pub const EXPORTS: [Export; 31] = [
+pub const EXPORTS: [Export; 35] = [
     ("sine", |g| maztubel::maztubel_sine(0.5, &mut g.numbers[0])),
     ("cosine", |g| {
         maztubel::maztubel_cosine(0.5, &mut g.numbers[0])
@@ -185,6 +190,33 @@ pub const EXPORTS: [Export; 31] = [
         };
         maztubel::divide_for(&mut g.balances, 31, solved, [1.0; 2], lent)
     }),
+    ("admit", |g| {
+        let (poses, joints) = g.numbers.split_at_mut(130);
+        let solved = Solved {
+            chain: &g.chain,
+            poses: TWO_POSES.as_flattened(),
+            joints: TWO_SETS.as_flattened(),
+        };
+        let state = Dispatcher {
+            words: &mut g.words,
+            numbers: &mut g.state,
+        };
+        let outputs = [&mut poses[..60], &mut joints[..50]];
+        let place = (&mut g.at, &mut g.letter);
+        maztubel::admit(state, solved, [1e6, 180.0], outputs, &mut g.count, place)
+    }),
+    ("next", |g| maztubel::next(&g.words, &mut g.count)),
+    ("count", |g| maztubel::count(&g.words, 0, &mut g.count)),
+    ("turn", |g| {
+        let (poses, joints) = g.numbers.split_at_mut(130);
+        let state = Dispatcher {
+            words: &mut g.words,
+            numbers: &mut g.state,
+        };
+        let outputs = [&mut poses[..60], &mut joints[..50]];
+        let lent = (&mut g.at, &mut g.letter, &mut g.count);
+        maztubel::turn(state, outputs, lent)
+    }),
     ("links_meet", |g| {
         let lent = g.places.each_mut();
         let machine = machine(&g.chain, &g.model);
@@ -216,6 +248,8 @@ impl Given {
             tolerances: [0.0; 3],
             balances: [0; 32],
             scratch: vec![0.0; ENOUGH[0] + ENOUGH[1]],
+            words: [0; WORDS],
+            state: [0.0; NUMBERS],
             count: 0,
             at: 0,
             letter: 0,

@@ -4,7 +4,7 @@
 
 use super::forwards::{HEAD, TABLE, rotary};
 use oracle::chains::Chain;
-use oracle::maztubel::{self, Course, Lent, Scratch, Solved};
+use oracle::maztubel::{self, Course, Dispatcher, Lent, Scratch, Solved};
 use oracle::original::untouched::kinematics::{FiveAxisSetup, Joints, ToolPose};
 use oracle::quotes::Quote;
 use oracle::rust::untouched;
@@ -243,12 +243,28 @@ impl Case {
         maztubel::divide_for(balances, 0, solved, self.tolerances, space.lent())
     }
 
+    /// To a dispatcher.
+    pub fn admit(&self, state: Dispatcher, space: &mut Space) -> u32 {
+        let outputs = [&mut space.poses[..], &mut space.joints[..]];
+        let (path, place) = (&mut space.inserted, (&mut space.at, &mut space.letter));
+        maztubel::admit(state, self.solved(), self.tolerances, outputs, path, place)
+    }
+
     fn solve_and_divide(&self, space: &mut Space) -> u32 {
         maztubel::solve_and_divide(self.course(), self.tolerances, space.lent())
     }
 }
 
 impl Space {
+    /// A turn of the path that has these outputs; whether it has ended.
+    pub fn turn(&mut self, state: Dispatcher) -> bool {
+        let (mut path, mut ended) = (0, 0);
+        let outputs = [&mut self.poses[..], &mut self.joints[..]];
+        let number = maztubel::turn(state, outputs, (&mut path, &mut ended, &mut self.inserted));
+        assert_eq!(number, 0, "a turn was refused");
+        ended == 1
+    }
+
     /// What the last call inserted.
     pub fn inserted(&self) -> usize {
         self.inserted as usize

@@ -1,5 +1,6 @@
 //! What needs the Rust that is compared: forward, inverse, paths, division and links that meet beside it, and the memory of both.
 
+mod cells;
 mod exports;
 mod finishing;
 mod forwards;
@@ -34,6 +35,7 @@ pub fn timed() -> (Vec<Section>, Vec<Row>) {
     sections.push(stricts::section());
     sections.push(quotations::section());
     sections.push(quotas::section());
+    sections.push(cells::section());
     sections.push(meetings::section());
     for section in &sections {
         show(&section.table());
