@@ -205,7 +205,8 @@ impl Bend {
         Ok(svg + &text([40.0, 374.0], "start", first) + &text([40.0, 391.0], "start", second))
     }
 
-    /// In the waist, at eighths of the way: from where the chord of the given poses has the tip to where the joints have it.
+    /// In the waist, at eighths of the way: from where the chord of the given poses has the tip to where the joints
+    /// have it.
     fn ties(&self) -> Result<String, Refusal> {
         let [from, to] = [1, 2].map(|i| self.given.poses[i].tip);
         let mut svg = String::new();

@@ -233,7 +233,7 @@ pub fn subdivide_path(
 ///     }],
 ///     spindle: [0.0, 0.0, 1.0],
 /// };
-/// // Two whole turns under a tip 20 mm beside the axis: at the middle the tip is back where it was, at the quarters opposite.
+/// // Two whole turns under a tip 20 mm beside the axis: at the middle it is back where it was, at the quarters opposite.
 /// let poses = [Pose { tip: [20.0, 0.0, 0.0], axis: [0.0, 0.0, 1.0] }; 2];
 /// let joints = [0.0, 720.0].map(|c| Joints { position: [20.0, 0.0, 0.0], angles: [c, 0.0] });
 /// let tolerances = Tolerances { chord: 0.5, axis: 0.5 };

@@ -1,7 +1,7 @@
 //! Turns the text of a job into its bytes, its bytes into text, and tells what a reader says of them.
 //!
 //!     job bytes < name.txt > name.job      through the library's writer, which judges the job
-//!     job pack < name.txt > name.job       byte by byte with nothing judged, for tests and for jobs that must be refused
+//!     job pack < name.txt > name.job       with nothing judged, for tests and for jobs that must be refused
 //!     job text < name.job > name.txt
 //!     job read < name.job
 //!
@@ -35,18 +35,19 @@
 //!     chord 0.01
 //!     axis-tolerance 0.5
 //!
-//! `job bytes` takes these lines in this order, and nothing between them: the writer leaves no gap. For `job pack` each line
-//! stands for its bytes, so any file can be packed, a malformed one too, from these lines in any order, and from
+//! `job bytes` takes these lines in this order, and nothing between them: the writer leaves no gap. For `job pack` each
+//! line stands for its bytes, so any file can be packed, a malformed one too, from these lines in any order, and from
 //!
 //!     bytes 01 FF              bytes in hexadecimal
 //!     fill 100 00              so many of one byte
 //!
-//! A number is written in decimal, and stands for the nearest double; or as 16 hexadecimal digits, in capitals, for the bits of one,
-//! the highest first, as answers are printed. A whole number that happens to have 16 digits has `.0` behind it.
+//! A number is written in decimal, and stands for the nearest double; or as 16 hexadecimal digits, in capitals, for the
+//! bits of one, the highest first, as answers are printed. A whole number that happens to have 16 digits has `.0`
+//! behind it.
 //!
-//! `job text` writes decimal where that gives the same bits, hexadecimal for a nan and an infinity, and `bytes` or `fill` for
-//! whatever no field stands for. `job pack` of it gives the same file again, whatever the file; `job bytes` does of every file
-//! that the writer has written.
+//! `job text` writes decimal where that gives the same bits, hexadecimal for a nan and an infinity, and `bytes` or
+//! `fill` for whatever no field stands for. `job pack` of it gives the same file again, whatever the file; `job bytes`
+//! does of every file that the writer has written.
 
 use job::{NotWritten, pack, read, text_of, write};
 use std::io::{self, Read, Write};

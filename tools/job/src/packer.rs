@@ -1,6 +1,6 @@
-//! The packer that is independent of the library: from text to bytes, line by line, with nothing judged. It is for tests, which
-//! hold the library's writer to it, and for jobs that are damaged on purpose or refused, as most of examples/jobs. Every other
-//! job is written by the library (writer.rs).
+//! The packer that is independent of the library: from text to bytes, line by line, with nothing judged. It is for
+//! tests, which hold the library's writer to it, and for jobs that are damaged on purpose or refused, as most of
+//! examples/jobs. Every other job is written by the library (writer.rs).
 
 use crate::lines::{Fault, Line, lines};
 use crate::numbers::number_in;

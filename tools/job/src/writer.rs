@@ -1,5 +1,5 @@
-//! From text to bytes through the library: the lines become a job, which its proved writer judges and writes. So a text says
-//! every field in the writer's order, with nothing between chain, poses and trailer.
+//! From text to bytes through the library: the lines become a job, which its proved writer judges and writes. So a text
+//! says every field in the writer's order, with nothing between chain, poses and trailer.
 
 use crate::lines::{Fault, Line, lines};
 use crate::numbers::number_in;
@@ -36,8 +36,8 @@ impl From<Refusal> for NotWritten {
     }
 }
 
-/// The bytes that the library writes for the job of a text. They are those that the text stands for: a text whose trailer says
-/// anything else has a fault.
+/// The bytes that the library writes for the job of a text. They are those that the text stands for: a text whose
+/// trailer says anything else has a fault.
 pub fn write(text: &str) -> Result<Vec<u8>, NotWritten> {
     let (job, claims) = Walk::along(text).job()?;
     let bytes = job.to_bytes()?;

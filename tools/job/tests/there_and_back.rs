@@ -1,4 +1,5 @@
-//! Going from bytes to text and back gives the same bytes, whatever they are; and the jobs of examples/jobs are their texts.
+//! Going from bytes to text and back gives the same bytes, whatever they are; and the jobs of examples/jobs are their
+//! texts.
 
 use job::{pack, read, text_of};
 use std::fs;

@@ -1,5 +1,5 @@
-//! What the library writes for a text is what the packer makes of it, byte for byte, wherever the library writes it: of the texts of
-//! examples/jobs, and of jobs that are drawn.
+//! What the library writes for a text is what the packer makes of it, byte for byte, wherever the library writes it: of
+//! the texts of examples/jobs, and of jobs that are drawn.
 
 use job::{NotWritten, pack, text_of, write};
 use maztubel::{Carrier, Chain, Job, Limits, Pose, Rotary, Tolerances};
@@ -7,7 +7,8 @@ use std::collections::BTreeMap;
 use std::fs;
 use std::path::Path;
 
-/// The texts of examples/jobs that the writer refuses, with its number. A chain comes before the cone, and no pose is solved.
+/// The texts of examples/jobs that the writer refuses, with its number. A chain comes before the cone, and no pose is
+/// solved.
 const REFUSED: [(&str, u32); 18] = [
     ("axis-not-finite", 6),
     ("axis-overflows", 7),

@@ -84,8 +84,8 @@ pub fn job_bytes(chain: &Chain, poses: &[Pose]) -> Vec<u8> {
     packed(&chain.bytes(), &pose_numbers(poses), NUMBERS)
 }
 
-/// A job's bytes from its parts, by the packer of `tools/job`: what the library writes is held to them. The last numbers
-/// are the cone and the tolerances.
+/// A job's bytes from its parts, by the packer of `tools/job`: what the library writes is held to them. The last
+/// numbers are the cone and the tolerances.
 pub fn packed(chain: &[u8], poses: &[f64], numbers: [f64; 3]) -> Vec<u8> {
     let bytes: Vec<String> = chain.iter().map(|byte| format!("{byte:02X}")).collect();
     let poses: String = poses.chunks(6).map(|pose| line("pose", pose)).collect();
