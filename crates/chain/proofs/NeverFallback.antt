@@ -1,6 +1,6 @@
 -- Forward takes no fallback, whatever it is asked, once its checks pass. A total definition needs an answer where the
 -- Rust's has none: no turn beyond 45,000 degrees (`turn_of`), the given axis where it has no direction (`unit_axis`), the
--- unit spindle where the reached axis has none (`forward_core`), and refusal 9 for that axis (`posed`). `forward-plain`
+-- unit spindle where the reached axis has none (`forward_core`), and refusal 9 for that axis (`posed`). `forward_plain`
 -- says that none of them is ever taken, and `read_plain` the same of a chain that is read from bytes, where nothing is
 -- left to suppose.
 use mathlib.Core.Path.{◌≡◌, refl, ap, ◌∙◌, subst}

@@ -1,5 +1,5 @@
 -- The axes of a chain that passes its checks have a direction, so that those of the prepared chain are the unit vectors
--- of the given ones (`chain-directions`) and as long as unit vectors are (`chain-units`).
+-- of the given ones (`chain_directions`) and as long as unit vectors are (`chain_units`).
 use mathlib.Core.Path.{◌≡◌, refl}
 use mathlib.Core.Bool.{Bool, true, false, cond, false≢true}
 use Prim.Native.Nat.{ℕ}

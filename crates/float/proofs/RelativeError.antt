@@ -1,5 +1,5 @@
 -- A rounded fraction is within 2 ^ -50 of it, relatively, and a unit, wherever the result is finite: one rule for every
--- size, up to the largest. `round-near` (Rounding) is finer, but stops at 2 ^ 1020.
+-- size, up to the largest. `round_near` (Rounding) is finer, but stops at 2 ^ 1020.
 use Rattle.std.proofs.Common.{◌≡◌, ℕ, ◌+◌, ◌-◌, ◌*◌, ◌/◌, ◌%◌, ◌^◌, ◌<◌, ◌≤◌, true, false, T, ◌⊎◌, sym, subst, inl, inr, le_trans, lt_of_lt_of_le, mul-le-mul_right, div-lt_iff_lt-mul, div-add-mod', le_of_mul-le-mul_right, arith, pow_mono, pow-add}
 use lib.Ieee.{Float, nan, inf, fin, binary64, size, round, add}
 use lib.Ieee.Digits.{size-lt, size_reaches}

@@ -1,5 +1,5 @@
 -- The axis between two, without the fallbacks for functions that refuse: at t from 0 to 1 the arccosine, the sines and
--- the cosine of `slerp_axis` are always served (`slerp-plain`), and what it gives is of doubles (`slerp-fits`).
+-- the cosine of `slerp_axis` are always served (`slerp_plain`), and what it gives is of doubles (`slerp_fits`).
 use mathlib.Core.Path.{◌≡◌, refl, sym, subst}
 use mathlib.Core.Bool.{true, false, cond}
 use Prim.Native.Nat.{◌*◌, ◌^◌}

@@ -1,5 +1,5 @@
 -- The pair of every turn, for every float: both at most 1 + 2 ^ -50 in size, and one of them at least 0.6
--- (`turn-pair`). A law that leans on a turn leans on this alone.
+-- (`turn_pair`). A law that leans on a turn leans on this alone.
 use mathlib.Core.Path.{◌≡◌}
 use mathlib.Core.Bool.{false≢true}
 use mathlib.Core.Logic.{◌⊎◌, inl, inr}

@@ -1,6 +1,6 @@
 -- A unit vector of doubles is one: the squares of its numbers add up to 1 within 2 ^ -20 (`unit_size`), whatever vector
 -- it is of, from 1e-15 up to the largest of which the length is finite. So its numbers are at most 2 in size
--- (`unit-small`), and every law that leans on a unit vector leans on this alone.
+-- (`unit_small`), and every law that leans on a unit vector leans on this alone.
 --
 -- u is 1 in units, and b = u * u. The numbers a of the vector have squares that add up to m; l is the length, r one
 -- over it, and v = a r the number of the unit vector, each rounded. Then l l is near m, r l near b, and the sum of v v

@@ -1,5 +1,5 @@
 -- What the checks of `inverse` leave behind them: a chain that has passed its own, a hint within 36,000 degrees, and a
--- pose whose axis has a direction, so that the second 15, that of `toward`, is never answered (`axis-unit`).
+-- pose whose axis has a direction, so that the second 15, that of `toward`, is never answered (`axis_unit`).
 use mathlib.Core.Path.{◌≡◌, refl}
 use mathlib.Core.Bool.{true, ◌&&◌, false≢true, and-eq-true_iff}
 use lib.Dec.{T}

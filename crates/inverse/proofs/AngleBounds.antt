@@ -1,4 +1,4 @@
--- Every angle that inverse and choose turn a rotary by is finite and within 36,900 degrees (`wrapped-within`), so
+-- Every angle that inverse and choose turn a rotary by is finite and within 36,900 degrees (`wrapped_within`), so
 -- within the 45,000 in which a turn is made of a sine and a cosine. An angle that subproblem 1 answers is at most 180;
 -- with a hint of at most 36,000 a raw angle is at most 36,180, and two turns more are 36,900.
 use mathlib.Core.Path.{◌≡◌, refl, subst}

@@ -1,5 +1,5 @@
 -- Every arctangent that inverse asks is served: for unit vectors both of its arguments are finite, since every point
--- between is bounded. So the raw angles are those of subproblem 1 without its fallback (`orientation-plain`).
+-- between is bounded. So the raw angles are those of subproblem 1 without its fallback (`orientation_plain`).
 use mathlib.Core.Path.{◌≡◌, refl, sym, ap, ◌∙◌}
 use mathlib.Core.Bool.{Bool, true, false, cond}
 use Prim.Native.Nat.{ℕ, ◌+◌, ◌^◌, ◌≤◌}

@@ -1,7 +1,7 @@
 -- Forward as the Rust calls it inside inverse, choose, solve_path and division, where the chain is checked: 16 for an
 -- angle that is not finite, turns made of a sine and a cosine, and 9 for an axis without a direction. Within 45,000
 -- degrees it refuses nothing, and its pose is that of `forward_core`, which has a fallback for each of the three
--- (`inner-forward`).
+-- (`inner_forward`).
 use mathlib.Core.Path.{◌≡◌, sym, ap, ◌∙◌}
 use mathlib.Core.Bool.{cond, ◌&&◌}
 use lib.Ieee.{Float}

@@ -1,5 +1,5 @@
 -- `inverse` and `choose` take no fallback: each is equal, for every chain, pose, tool and hint of doubles, to a
--- definition that has none (`inverse-plain`, `choose-plain`). In that definition
+-- definition that has none (`inverse_plain`, `choose_plain`). In that definition
 -- - subproblem 1 takes an arctangent that every two numbers have, and the one of the program refuses where one of them
 --   is not finite: it never does;
 -- - every turn is made of a sine and a cosine, and that of the program is no turn beyond 45,000 degrees: none goes so

@@ -1,5 +1,5 @@
 -- What the test of a call's answer tells of the function that the answer's contract names: `is` where the code tests the
--- answer itself, `isn't` and `is-after-all` where it tests the answer's negation.
+-- answer itself, `isn't` and `is_after_all` where it tests the answer's negation.
 use mathlib.Core.Path.{◌≡◌, sym, ◌∙◌}
 use mathlib.Core.Bool.{Bool, true, false, not}
 use borrow.Author.Tests.{not-true, not-false}

@@ -1,4 +1,4 @@
--- Laws of the links of a model: what they are from one link on to the next, and the walks over them. The bound in their definition leaves none out: `links-more` and `links-none` do not know it.
+-- Laws of the links of a model: what they are from one link on to the next, and the walks over them. The bound in their definition leaves none out: `links_more` and `links_none` do not know it.
 use Prim.Native.Nat.{ℕ, zero, suc, ◌+◌, ◌-◌, ◌≤◌, ◌<◌}
 use native.Mathlib.Omega.{arith}
 use mathlib.Core.HLevel.{is_prop→PathP}

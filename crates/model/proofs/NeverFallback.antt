@@ -1,4 +1,4 @@
--- Link frames take no fallback, whatever they are asked, once their checks pass: `link-plain`, for `link_world` and
+-- Link frames take no fallback, whatever they are asked, once their checks pass: `link_plain`, for `link_world` and
 -- `link_in_part` alike, which share their checks and their turns.
 use mathlib.Core.Path.{◌≡◌, ap, ◌∙◌}
 use mathlib.Core.Bool.{true, ◌&&◌, and-eq-true_iff}

@@ -1,5 +1,5 @@
 -- `solve_path` takes no fallback: for every chain, pose and start of doubles it is equal to a definition that has none
--- (`path-plain`). In that definition
+-- (`path_plain`). In that definition
 -- - subproblem 1, the angle to the nearer pole and the angle between two axes are made of arctangents that every two
 --   numbers have, and those of the program refuse where one is not finite or no cosine: they never do;
 -- - every turn is made of a sine and a cosine, and that of the program is no turn beyond 45,000 degrees: none goes so

@@ -1,5 +1,5 @@
 -- Every angle that solve_path turns a rotary by is finite and within 37,000 degrees: at every pose, outside the cone
--- and inside it (`pose-turns`), all along the path (`path-turns`).
+-- and inside it (`pose_turns`), all along the path (`path_turns`).
 use mathlib.Core.Path.{◌≡◌}
 use mathlib.Core.Bool.{Bool, true, not, and-eq-true_iff}
 use mathlib.Core.List.{List, [], ◌∷◌}

@@ -1,4 +1,4 @@
--- The square root of every f64 above zero is the nearest value (`root-rooted`); roots are in the order of what they are roots of (`root-mono`); a norm that is small has small parts, grows with its parts, and is
+-- The square root of every f64 above zero is the nearest value (`root_rooted`); roots are in the order of what they are roots of (`root_mono`); a norm that is small has small parts, grows with its parts, and is
 -- the same from either end.
 use Rattle.std.proofs.Common.{◌≡◌, ℕ, zero, suc, ◌+◌, ◌-◌, ◌*◌, ◌^◌, ◌<◌, ◌≤◌, Bool, true, false, T, ◌⊎◌, ℤ, sym, refl, ap, ◌∙◌, subst, inl, inr, true≢false, le_trans, le_of_eq, lt_of_lt_of_le, le_of_lt, mul-le-mul_right, mul_assoc, mul-le-mul, lt_of_mul-lt-mul_right, mul-lt-mul_of_pos_right, mul-pos, not-le_of_lt, arith, pow_pos, pow_mono, pow-add}
 use lib.Ieee.{Float, nan, inf, fin, binary64, unlike, up, down, size, round, add, sub, mul, lt, eq, le, fits, is_nan, of_bits}

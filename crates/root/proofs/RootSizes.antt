@@ -1,6 +1,6 @@
--- How large a root is. Its square is what it is the root of, within 2 ^ -51 (`root-square`); a bounded number has a
--- bounded root (`root-small`), what is at least 2 ^ -100 has one of at least 2 ^ -50 (`root-long`), and a root that is
--- not zero is at least 2 ^ -537 (`root-apart`).
+-- How large a root is. Its square is what it is the root of, within 2 ^ -51 (`root_square`); a bounded number has a
+-- bounded root (`root_small`), what is at least 2 ^ -100 has one of at least 2 ^ -50 (`root_long`), and a root that is
+-- not zero is at least 2 ^ -537 (`root_apart`).
 use Rattle.std.proofs.Common.{◌≡◌, ℕ, zero, suc, ◌+◌, ◌-◌, ◌*◌, ◌^◌, ◌<◌, ◌≤◌, Bool, true, false, cond, not, T, pos, negsuc, sym, refl, ap, ◌∙◌, subst, true≢false, le_trans, mul-le-mul_right, mul-pos, not-le_of_lt, arith, lit≤, pow_pos}
 use lib.Ieee.{Float, nan, inf, fin, binary64, up, down, round, neg, le, lt, eq, is_nan, of_bits, fits}
 use lib.Ieee.Bits.{of_bits-fits}

@@ -1,4 +1,4 @@
--- The bisection finds an angle of the tangent t, and so does the guess that passes the check: `grid-right`. And the same steps as the code has them. Assumes nothing.
+-- The bisection finds an angle of the tangent t, and so does the guess that passes the check: `grid_right`. And the same steps as the code has them. Assumes nothing.
 use Rattle.std.proofs.Common.{◌≡◌, ℕ, zero, suc, ◌+◌, ◌-◌, ◌/◌, ◌<◌, ◌≤◌, min, Bool, true, false, cond, T, eqb, sym, refl, ap, ◌∙◌, true≢false, arith, lit≤, eqb→eq}
 use lib.Ieee.{Float, binary64, add, mul, of_bits, to_unsigned, le, lt}
 use Rattle.trig.specs.Kernel.{plus_zero, sine_kernel, cosine_kernel}

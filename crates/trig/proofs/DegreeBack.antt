@@ -1,5 +1,5 @@
 -- Turning back: the pair of the negated angle has the same cosine and the sine negated, in every bit, a zero staying
--- +0.0 both ways (`pair-back`). Assumes nothing.
+-- +0.0 both ways (`pair_back`). Assumes nothing.
 use Rattle.std.proofs.Common.{◌≡◌, ℕ, Bool, true, false, cond, ◌⊎◌, ℤ, sym, refl, ap, ◌∙◌, inl, inr, true≢false}
 use lib.Ieee.{Float, nan, inf, fin, binary64, neg, add, of_bits, le, lt, eq}
 use lib.Ieee.Fits.{neg-fits}

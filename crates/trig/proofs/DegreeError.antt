@@ -1,5 +1,5 @@
 -- The error of the steps in degrees, over whole numbers: what is left after quarter turns is document 01's rest at the
--- exact remainder times Pi over 180, to within 24 W in radians, so the two sums are within 2 ^ -50 (`degree-near`).
+-- exact remainder times Pi over 180, to within 24 W in radians, so the two sums are within 2 ^ -50 (`degree_near`).
 -- Assumes nothing.
 use Rattle.std.proofs.Common.{◌≡◌, ℕ, suc, ◌+◌, ◌-◌, ◌*◌, ◌/◌, ◌%◌, ◌^◌, ◌<◌, ◌≤◌, Bool, true, false, sym, refl, ap, subst, le_trans, le_of_eq, le_of_suc-le-suc, le_of_lt, mul-le-mul_right, div-lt_iff_lt-mul, le_antisymm, lt_of_mul-lt-mul_right, mul-lt-mul_of_pos_right, mul-pos, div-add-mod', le-div_iff_mul-le, le_of_mul-le-mul_right, arith, lit<, lit≤}
 use lib.Ieee.{Float, binary64, of_bits}

@@ -1,5 +1,5 @@
--- The sine and the cosine of degrees are within 2 ^ -50 of the definition, at every angle up to 45,000 (`sine-right`,
--- `cosine-right`). Assumes nothing.
+-- The sine and the cosine of degrees are within 2 ^ -50 of the definition, at every angle up to 45,000 (`sine_right`,
+-- `cosine_right`). Assumes nothing.
 use Rattle.std.proofs.Common.{◌≡◌, ℕ, ◌*◌, ◌^◌, ◌≤◌, Bool, true, false, cond, T, ℤ, pos, sym, refl, ◌∙◌, subst, true≢false, arith, lit≤}
 use lib.Ieee.{Float, nan, inf, fin, binary64, up, down, neg, mul, sub, of_int, of_bits, le, lt, eq, fits}
 use lib.Ieee.Fits.{neg-fits, cond-fits}

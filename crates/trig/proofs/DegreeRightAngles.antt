@@ -1,5 +1,5 @@
 -- At every multiple of 90 degrees, above or below zero, the sine and the cosine are exactly +0.0, 1 or -1
--- (`right-angles`). Assumes nothing.
+-- (`right_angles`). Assumes nothing.
 use Rattle.std.proofs.Common.{◌≡◌, ℕ, zero, suc, ◌+◌, ◌-◌, ◌*◌, ◌/◌, ◌%◌, ◌^◌, ◌<◌, Bool, true, false, cond, ◌&&◌, ◌||◌, T, eqb, ltb, ◌⊎◌, ℤ, pos, sym, refl, ap, ◌∙◌, subst, inl, inr, true≢false, le_of_eq, arith, lit<, ltb→lt}
 use lib.Ieee.{Float, nan, inf, fin, binary64, up, down, neg, mul, add, sub, of_int, of_bits, lt, eq, fits}
 use lib.Ieee.Fits.{down_pos, neg-fits}

@@ -1,5 +1,5 @@
 -- The sine and the cosine of degrees are finite, doubles, and at most 1 + 2 ^ -50 in size, for every float x, a double
--- or not (`pair-tidy`): for laws that lean on no more than a turn. Assumes nothing.
+-- or not (`pair_tidy`): for laws that lean on no more than a turn. Assumes nothing.
 use Rattle.std.proofs.Common.{◌≡◌, ℕ, zero, suc, ◌+◌, ◌*◌, ◌%◌, ◌^◌, ◌<◌, ◌≤◌, Bool, true, false, cond, T, ltb, ℤ, pos, sym, refl, ap, subst, true≢false, le_of_lt, mul-le-mul_right, mul-le-mul, mul-lt-mul_of_pos_right, mul-pos, le_of_mul-le-mul_right, arith, lit<, lit≤}
 use lib.Ieee.{Float, nan, inf, fin, binary64, up, down, neg, mul, of_int, of_bits, le, lt, eq, fits}
 use lib.Ieee.Fits.{down_pos, neg-fits, cond-fits, add-fits}

@@ -1,4 +1,4 @@
--- Of the sine and the cosine of degrees one is at least 0.6 in size, for every float x (`pair-wide`): the larger is a
+-- Of the sine and the cosine of degrees one is at least 0.6 in size, for every float x (`pair_wide`): the larger is a
 -- C(r) with r of at most 0.79, and that is at least 1 - r² / 2. Assumes nothing.
 use Rattle.std.proofs.Common.{◌≡◌, ℕ, zero, suc, ◌+◌, ◌-◌, ◌*◌, ◌%◌, ◌^◌, ◌<◌, ◌≤◌, Bool, true, false, cond, T, ◌⊎◌, ℤ, sym, refl, ap, subst, inl, inr, true≢false, mul-le-mul_right, mul-le-mul, mul-pos, le_of_mul-le-mul_right, arith, lit≤}
 use lib.Ieee.{Float, nan, inf, fin, binary64, up, down, neg, add, of_bits, le, lt, eq, fits}

@@ -1,5 +1,5 @@
--- The sine and the cosine of degrees are doubles (`degree-fits`), and what `plain` does: it makes a -0.0 a +0.0
--- (`plain-sign`) and keeps the bound, the size and the rest of a float. Assumes nothing.
+-- The sine and the cosine of degrees are doubles (`degree_fits`), and what `plain` does: it makes a -0.0 a +0.0
+-- (`plain_sign`) and keeps the bound, the size and the rest of a float. Assumes nothing.
 use Rattle.std.proofs.Common.{◌≡◌, ℕ, zero, suc, ◌+◌, ◌*◌, ◌%◌, ◌^◌, ◌≤◌, Bool, true, false, T, ℤ, pos, sym, refl, ap, ◌∙◌, subst, true≢false, arith, lit≤}
 use lib.Ieee.{Float, nan, inf, fin, binary64, neg, mul, add, of_bits, fits}
 use lib.Ieee.Fits.{neg-fits, mul-fits, sub-fits, cond-fits}

@@ -1,5 +1,5 @@
 -- Horner's form of the Taylor sums, exactly: 1 - z / (i (i + 1)) (1 - z / ((i + 2) (i + 3)) ( .. )), n terms after the first, is num / den at z = zn / zd.
--- It is the sum of specs/Taylor.antt (`terms-are`, `den-is`, `sin-is`, `cos-is`). At i = 2 it is sin r / r, and at i = 1 it is cos r, for z = r ^ 2. Assumes nothing.
+-- It is the sum of specs/Taylor.antt (`terms_are`, `den_is`, `sin_is`, `cos_is`). At i = 2 it is sin r / r, and at i = 1 it is cos r, for z = r ^ 2. Assumes nothing.
 use Rattle.std.proofs.Common.{◌≡◌, ℕ, zero, suc, ◌+◌, ◌-◌, ◌*◌, ◌^◌, ◌<◌, ◌≤◌, true, false, sym, refl, ap, ◌∙◌, le_trans, le_refl, lt_of_lt_of_le, mul-le-mul_right, mul_assoc, mul-le-mul, mul-pos, mul-one, arith, lit<, lit≤}
 use native.Mathlib.Nat.{pow-succ'}
 use native.Mathlib.Numerals.{unary_clauses}

@@ -1,5 +1,5 @@
 -- The slope of S and C, the one law for both: at two fractions u / v and x / y from 0 to 1 that lie within w / v of each other, C differs by at most 2 w / v and
--- S by at most 3 w / v (`cosine-slope`, `sine-slope`). It rests on Horner's form, where one step of `lip` bounds the change of z. Assumes nothing.
+-- S by at most 3 w / v (`cosine_slope`, `sine_slope`). It rests on Horner's form, where one step of `lip` bounds the change of z. Assumes nothing.
 use Rattle.std.proofs.Common.{◌≡◌, ℕ, zero, suc, ◌+◌, ◌-◌, ◌*◌, ◌^◌, ◌<◌, ◌≤◌, ◌⊎◌, sym, ap, ◌∙◌, subst, inl, inr, le_trans, le_of_eq, le_of_lt, mul-le-mul_right, mul_comm, mul-le-mul, mul-le-mul_left, mul-pos, le_of_mul-le-mul_right, arith, lit≤}
 use native.Mathlib.Nat.{mul-mul-mul_comm, one-le-pow, pow-succ'}
 use native.Mathlib.Numerals.{unary_clauses}

@@ -1,4 +1,4 @@
--- The error of the sum in floats: the code's `sum` is Horner's nested form (`sum-nested`), and where z is at most 5/8 its error is at most `bound n i` * 2 ^ -57,
+-- The error of the sum in floats: the code's `sum` is Horner's nested form (`sum_nested`), and where z is at most 5/8 its error is at most `bound n i` * 2 ^ -57,
 -- which is below 96 for the 12 terms of the sine and of the cosine. Assumes nothing.
 use Rattle.std.proofs.Common.{◌≡◌, ℕ, zero, suc, ◌+◌, ◌-◌, ◌*◌, ◌/◌, ◌^◌, ◌<◌, ◌≤◌, Bool, false, pos, sym, refl, ap, ◌∙◌, subst, inl, inr, lt_of_lt_of_le, lt_of_le_of_lt, le_of_lt, mul-le-mul_right, mul-le-mul, mul-le-mul_left, mul-lt-mul_of_pos_right, mul-pos, div-mul-le_self, le_of_mul-le-mul_right, arith, lit<, lit≤, pow_pos}
 use native.Mathlib.Nat.{lt-mul-div-succ}
