@@ -18,8 +18,8 @@
 /* The exports of the static library maztubel (`tools/archive maztubel` writes target/staticlib/libmaztubel.a).
  *
  * The rotary kinematics of a five-axis postprocessor, in millimetres and degrees; docs/CONVENTIONS.md has frames,
- * pivots, signs and worked machines. Link the library on x86-64 Linux; of the C library it uses only memcpy, memmove
- * and memset. It allocates nothing and keeps no pointer and no state, so calls may run on several threads at once.
+ * pivots, signs and worked machines. Link the library on x86-64 Linux; of the C library it uses only memcpy and
+ * memset. It allocates nothing and keeps no pointer and no state, so calls may run on several threads at once.
  *
  * Every function returns 0 and writes its outputs, or returns a refusal number and leaves them unchanged unless
  * stated. An output is kept if the call leaves it unchanged, and cleared if the call sets every number of it to

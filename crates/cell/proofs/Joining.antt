@@ -7,12 +7,14 @@ use lib.ListN.{length, length-set, set, take, drop}
 use lib.Seq.{take-set-le, get_or-set_same}
 use lib.Ieee.{Float}
 use Rattle.queue.specs.Queue.{Waiting}
-use Rattle.cell.specs.Coding.{entry_in, words_of, numbers_of, stored_at, entries}
+use Rattle.storing.specs.Storing.{stored_at}
+use Rattle.storing.proofs.Parts.{Parts, parts}
+use Rattle.cell.specs.Coding.{entry_in, words_of, numbers_of, entries}
 use Rattle.cell.specs.State.{count_in, queue_in}
 use Rattle.cell.specs.Admitting.{joined_words, joined_numbers, joined}
 use Rattle.cell.specs.declared.Entry.{Entry}
 use Rattle.cell.proofs.Codec.{entry_back, entries_same, entries_snoc}
-use Rattle.cell.proofs.Lent.{Parts, parts, beyond}
+use Rattle.cell.proofs.Lent.{beyond}
 use Rattle.cell.proofs.Requeue.{numbers_many}
 
 -- ---- one more waits

@@ -22,9 +22,9 @@ use Rattle.turn.proofs.Running.{axis_there}
 use Rattle.turn.proofs.Stored.{pose_codec, joints_codec}
 use Rattle.machine.specs.Dividing.{Ready, halved_from, division, division_after}
 use Rattle.machine.proofs.Divides.{begun_ready, begun_same}
-use Rattle.cell.specs.Coding.{stored_at}
+use Rattle.storing.specs.Storing.{stored_at}
+use Rattle.storing.proofs.Parts.{Parts, parts}
 use Rattle.cell.specs.Admitting.{second_axis, first_machine, placed_run, Begun}
-use Rattle.cell.proofs.Lent.{Parts, parts}
 
 pub some_count : (n : ℕ) → (n ≡ 0 → ⊥) → 0 < n
 some_count zero f = absurd (f refl)

@@ -13,14 +13,16 @@ use Rattle.lists.specs.Padding.{padded}
 use Rattle.lists.proofs.Padding.{length_padded, take_padded}
 use Rattle.queue.specs.Queue.{Waiting}
 use Rattle.queue.specs.Places.{waits}
-use Rattle.cell.specs.Coding.{entry_in, words_of, numbers_of, stored_at, forward, entries, path_in}
+use Rattle.storing.specs.Storing.{stored_at}
+use Rattle.storing.proofs.Parts.{Parts, parts}
+use Rattle.cell.specs.Coding.{entry_in, words_of, numbers_of, forward, entries, path_in}
 use Rattle.cell.specs.State.{count_in, queue_in}
 use Rattle.cell.specs.Turning.{first_number, with_machine, requeued, words_left, numbers_left, behind_first, words_served, numbers_served}
 use Rattle.cell.specs.declared.Entry.{Entry}
 use Rattle.cell.specs.declared.Outcome.{Outcome}
 use Rattle.cell.specs.declared.Outcome.TheVariants.{Still, Over}
 use Rattle.cell.proofs.Codec.{entry_back, entry_front, entries_same, entries_snoc}
-use Rattle.cell.proofs.Lent.{Parts, parts, beyond, Came, came}
+use Rattle.cell.proofs.Lent.{beyond, Came, came}
 
 pub numbers_many : (e : Entry) → length (numbers_of e) ≡ 23
 unfolding numbers_of

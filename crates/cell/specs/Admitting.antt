@@ -19,8 +19,9 @@ use Rattle.machine.specs.Dividing.{Ready, halved_from, division}
 use Rattle.divide.specs.Checking.{division_check}
 use Rattle.queue.specs.Queue as Queue
 use Rattle.queue.specs.Queue.{Waiting}
+use Rattle.storing.specs.Storing.{stored_at}
 use Rattle.cell.specs.declared.Entry.{Entry}
-use Rattle.cell.specs.Coding.{words_of, numbers_of, stored_at}
+use Rattle.cell.specs.Coding.{words_of, numbers_of}
 use Rattle.cell.specs.State.{count_in, state_long, Buffers, buffers, space_of, tolerances}
 use Rattle.cell.specs.Asking.{free_in}
 

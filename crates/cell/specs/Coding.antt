@@ -1,5 +1,5 @@
 -- A path that waits, in nine words and 23 numbers; and the paths that wait, in the order of waiting.
-use Rattle.std.specs.Prelude.{ℕ, zero, suc, ◌+◌, cond, List, [], ◌∷◌, ◌++◌, eqb, leb, length, get_or, take, drop, Float, None, Option, Some}
+use Rattle.std.specs.Prelude.{ℕ, zero, suc, ◌+◌, cond, List, [], ◌∷◌, ◌++◌, eqb, leb, get_or, take, drop, Float, None, Option, Some}
 use Rattle.std.specs.Float.{nan}
 use Rattle.float.specs.Helpers.{nought}
 use Rattle.geometry.specs.declared.Vec3.{Vec3}
@@ -86,10 +86,6 @@ numbers_of e =
     (vec_numbers e.chain.spindle (vec_numbers e.machine.left_axis (vec_numbers e.machine.end_axis (e.chord ∷ e.axis ∷ [])))))))
 
 -- ---- lent lists
--- elements stored from an index on
-unfoldable pub stored_at : {A : Type 0} → List A → ℕ → List A → List A
-stored_at l at v = take at l ++ (v ++ drop (at + length v) l)
-
 -- `count` elements brought forward by w, to the front
 unfoldable pub forward : {A : Type 0} → (w count : ℕ) → List A → List A
 forward w count l = take count (drop w l) ++ drop count l

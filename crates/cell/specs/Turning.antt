@@ -13,11 +13,12 @@ use Rattle.slice.specs.Slicing.{Slice, sliced}
 use Rattle.machine.specs.Dividing.{Divided, staying}
 use Rattle.queue.specs.Queue.{Waiting}
 use Rattle.queue.specs.Queue as Queue
+use Rattle.storing.specs.Storing.{stored_at}
 use Rattle.cell.specs.declared.Entry.{Entry}
 use Rattle.cell.specs.declared.Outcome.{Outcome}
 use Rattle.cell.specs.declared.Outcome.TheVariants.{Still, Over}
 use Rattle.cell.specs.declared.Served.{Served}
-use Rattle.cell.specs.Coding.{words_of, numbers_of, stored_at, forward, path_in}
+use Rattle.cell.specs.Coding.{words_of, numbers_of, forward, path_in}
 use Rattle.cell.specs.State.{count_in, queue_in, state_good, Buffers, buffers, space_of, tol_of}
 
 -- ---- what a path is served with

@@ -3,7 +3,6 @@ ghost use Rattle.std.specs.Prelude.{◌+◌, ◌-◌, ◌*◌, ◌/◌, ◌≤�
 ghost use Rattle.cell.specs.State as State;
 ghost use Rattle.cell.specs.Admitting as S;
 
-use crate::coding::store;
 use crate::freeing::free_number;
 use crate::state::{count_in, state_long, tolerances};
 use crate::{COUNT_AT, Entry, MOST_PATHS};
@@ -11,6 +10,7 @@ use chain::{Kinematics, Prepared, demand};
 use divide::division_check;
 use geometry::Vec3;
 use refusal::{Cause, Refusal};
+use storing::store;
 use turn::{Machine, axis_at, space_in};
 
 // The first w numbers to the front, and the others to the place `at`.

@@ -171,18 +171,18 @@ impl Entry {
 }
 
 // ---- lent lists
-// Stores elements from an index on.
-pub fn store<T: Copy>(to: &mut [T], at: usize, from: &[T])
-    requires { at + length from.now ≤ length to.old }
-    ensures { to.new ≡ S.stored_at to.old at from.now }
-{
-    to[at..at + from.len()].copy_from_slice(from);
-}
-
-// Brings so many elements to the front, from the place w on.
+// Brings so many elements to the front, from the place w on. Two at a time: of one at a time, and of `copy_within`, the
+// compiler makes a `memmove` of the C library.
 pub fn bring_forward<T: Copy>(to: &mut [T], w: usize, count: usize)
     requires { count + w ≤ length to.old }
     ensures { to.new ≡ S.forward w count to.old }
 {
-    to.copy_within(w..w + count, 0);
+    for i in 0..count / 2 {
+        let at = i * 2;
+        to[at] = to[at + w];
+        to[at + 1] = to[at + 1 + w];
+    }
+    if count % 2 == 1 {
+        to[count - 1] = to[count - 1 + w];
+    }
 }

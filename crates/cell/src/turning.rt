@@ -7,13 +7,14 @@ ghost use Rattle.cell.specs.State as State;
 ghost use Rattle.cell.specs.Turning as S;
 ghost use Rattle.cell.specs.Rows.{InRows};
 
-use crate::coding::{bring_forward, path_in, store};
+use crate::coding::{bring_forward, path_in};
 use crate::state::{count_in, state_good, tolerances};
 use crate::{COUNT_AT, Entry, Outcome, Served};
 use chain::demand;
 use machine::close;
 use refusal::{Cause, Refusal};
 use slice::run_some;
+use storing::store;
 use turn::{MOST, Machine, Outputs, Setting, Stop, space_in};
 
 const TESTS: usize = 64;

@@ -1,6 +1,6 @@
 // The order of the solutions, and one more put in its place: by the size of the first angle, then the first angle, then
 // the second, each in totalOrder. Of two that tie the earlier stays first.
-ghost use Rattle.std.specs.Prelude.{◌+◌, ◌≤◌, ◌<◌, ◌≡◌, length};
+ghost use Rattle.std.specs.Prelude.{◌+◌, ◌≤◌, ◌<◌, ◌≡◌, List, [], ◌∷◌, ◌++◌, length, take, drop};
 ghost use Rattle.std.specs.List.{position_or_len};
 ghost use Rattle.inverse.specs.Solutions as S;
 
@@ -33,6 +33,18 @@ fn place_of(solutions: &[Joints], j: Joints) -> usize
     solutions.iter().take_while(|k| !precedes(j, **k)).count()
 }
 
+// The last element to a place before, or at, its own, and those behind that place one further on. `insert` of the kit's
+// list does the same by a turn of a part, for which the archive asks the C library for `memmove`.
+fn bring_last(list: &mut [Joints], place: usize, last: usize)
+    requires { (place ≤ last) × (length list.old ≡ last + 1) }
+    ensures count { length list.new ≡ length list.old }
+    ensures at_place { (front : List Joints) (j : Joints) → list.old ≡ front ++ j ∷ [] → list.new ≡ take place front ++ j ∷ drop place front }
+{
+    let j = list[last];
+    list.copy_within(place..last, place + 1);
+    list[place] = j;
+}
+
 // j before the first that it precedes.
 pub fn insert(solutions: &mut Solutions, j: Joints)
     requires { length solutions.old.items < 50 }
@@ -40,5 +52,7 @@ pub fn insert(solutions: &mut Solutions, j: Joints)
     ensures count { length solutions.new.items ≡ length solutions.old.items + 1 }
 {
     let place = place_of(solutions, j);
-    solutions.insert(place, j);
+    let last = solutions.len();
+    solutions.push(j);
+    bring_last(solutions, place, last);
 }

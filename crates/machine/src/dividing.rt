@@ -11,6 +11,7 @@ ghost use Rattle.machine.specs.Dividing as S;
 use chain::Prepared;
 use geometry::Vec3;
 use slice::run_some;
+use storing::store;
 use turn::{GivenPath, Machine, Outputs, Setting, Stop, axis_at};
 
 // Brings all items but the first from the front to the end of the space. That there is an item and that all have space
@@ -113,7 +114,7 @@ pub fn divide_solved(
     ensures answer { result ≡ S.divided_in (S.division by.now.p by.now.tol out.old.space (items_in count given.now out.old.joints.now)) }
     ensures lent { S.Over (S.division by.now.p by.now.tol out.old.space (items_in count given.now out.old.joints.now)) out.old out.new }
 {
-    out.poses[..given.len()].copy_from_slice(given);
+    store(out.poses, 0, given);
     divide_after(by, count, 0, out)
 }
 
@@ -123,6 +124,6 @@ pub fn divide_given(by: &Setting, given: &GivenPath, out: &mut Outputs) -> Resul
     ensures answer { result ≡ S.divided_in (S.division by.now.p by.now.tol out.old.space (items_in given.now.count given.now.poses.now given.now.joints.now)) }
     ensures lent { S.Over (S.division by.now.p by.now.tol out.old.space (items_in given.now.count given.now.poses.now given.now.joints.now)) out.old out.new }
 {
-    out.joints[..given.joints.len()].copy_from_slice(given.joints);
+    store(out.joints, 0, given.joints);
     divide_solved(by, given.count, given.poses, out)
 }
