@@ -8,6 +8,7 @@ mod floats;
 mod jobs;
 mod picture;
 mod rows;
+mod steady;
 mod svg;
 mod timing;
 mod waves;
@@ -16,6 +17,7 @@ use rows::{Row, Section, Table, growth};
 use std::{env, fs};
 
 fn main() {
+    steady::start_again();
     let arguments: Vec<String> = env::args().skip(1).collect();
     let file = match arguments.as_slice() {
         [] => None,
