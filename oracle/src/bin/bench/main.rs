@@ -8,7 +8,6 @@ mod floats;
 mod jobs;
 mod picture;
 mod rows;
-mod steady;
 mod svg;
 mod timing;
 mod waves;
@@ -17,7 +16,6 @@ use rows::{Row, Section, Table, growth};
 use std::{env, fs};
 
 fn main() {
-    steady::start_again();
     let arguments: Vec<String> = env::args().skip(1).collect();
     let file = match arguments.as_slice() {
         [] => None,
