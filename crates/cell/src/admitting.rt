@@ -96,7 +96,7 @@ fn machine_on(p: Prepared, space: usize, count: usize, solved: &[f64]) -> Machin
 
 // Places the given items, and makes the entry that they begin with.
 fn enter(
-    k: Kinematics,
+    k: &Kinematics,
     chord: f64,
     axis: f64,
     given: &[f64],
@@ -105,9 +105,9 @@ fn enter(
     joints: &mut [f64],
 ) -> Entry
     requires { (length given.now ≡ length given.now / 6 * 6) × (length solved.now ≡ length given.now / 6 * 5) × (length given.now / 6 ≤ State.space_of (State.buffers poses.old joints.old)) }
-    ensures entry { result ≡ S.first_entry (S.inputs k chord axis given.now solved.now) (State.buffers poses.old joints.old) }
-    ensures poses { poses.new ≡ (S.placed (S.inputs k chord axis given.now solved.now) (State.buffers poses.old joints.old)).poses }
-    ensures joints { joints.new ≡ (S.placed (S.inputs k chord axis given.now solved.now) (State.buffers poses.old joints.old)).joints }
+    ensures entry { result ≡ S.first_entry (S.inputs k.now chord axis given.now solved.now) (State.buffers poses.old joints.old) }
+    ensures poses { poses.new ≡ (S.placed (S.inputs k.now chord axis given.now solved.now) (State.buffers poses.old joints.old)).poses }
+    ensures joints { joints.new ≡ (S.placed (S.inputs k.now chord axis given.now solved.now) (State.buffers poses.old joints.old)).joints }
 {
     let space = space_in(poses.len(), joints.len());
     let count = given.len() / 6;
@@ -150,7 +150,7 @@ pub fn state_check(words: &[u64], numbers: &[f64]) -> Result<(), Refusal>
 fn admit_check(
     words: &[u64],
     numbers: &[f64],
-    k: Kinematics,
+    k: &Kinematics,
     chord: f64,
     axis: f64,
     given: &[f64],
@@ -158,7 +158,7 @@ fn admit_check(
     room_poses: usize,
     room_joints: usize,
 ) -> Result<(), Refusal>
-    ensures { result ≡ S.admit_check words.now numbers.now (S.inputs k chord axis given.now solved.now) room_poses room_joints }
+    ensures { result ≡ S.admit_check words.now numbers.now (S.inputs k.now chord axis given.now solved.now) room_poses room_joints }
 {
     state_check(words, numbers)?;
     let tol = tolerances(chord, axis);
@@ -169,7 +169,7 @@ fn admit_check(
 pub fn admit(
     words: &mut [u64],
     numbers: &mut [f64],
-    k: Kinematics,
+    k: &Kinematics,
     chord: f64,
     axis: f64,
     given: &[f64],
@@ -177,15 +177,15 @@ pub fn admit(
     poses: &mut [f64],
     joints: &mut [f64],
 ) -> Result<u64, Refusal>
-    ensures answer { let i = S.inputs k chord axis given.now solved.now in
+    ensures answer { let i = S.inputs k.now chord axis given.now solved.now in
         result ≡ S.admitted_in (S.admit_answer words.old numbers.old i (State.buffers poses.old joints.old)) }
-    ensures words { let i = S.inputs k chord axis given.now solved.now in let b = State.buffers poses.old joints.old in
+    ensures words { let i = S.inputs k.now chord axis given.now solved.now in let b = State.buffers poses.old joints.old in
         words.new ≡ S.words_after (S.admit_answer words.old numbers.old i b) words.old i b }
-    ensures numbers { let i = S.inputs k chord axis given.now solved.now in let b = State.buffers poses.old joints.old in
+    ensures numbers { let i = S.inputs k.now chord axis given.now solved.now in let b = State.buffers poses.old joints.old in
         numbers.new ≡ S.numbers_after (S.admit_answer words.old numbers.old i b) words.old numbers.old i b }
-    ensures poses { let i = S.inputs k chord axis given.now solved.now in let b = State.buffers poses.old joints.old in
+    ensures poses { let i = S.inputs k.now chord axis given.now solved.now in let b = State.buffers poses.old joints.old in
         poses.new ≡ (S.outputs_after (S.admit_answer words.old numbers.old i b) i b).poses }
-    ensures joints { let i = S.inputs k chord axis given.now solved.now in let b = State.buffers poses.old joints.old in
+    ensures joints { let i = S.inputs k.now chord axis given.now solved.now in let b = State.buffers poses.old joints.old in
         joints.new ≡ (S.outputs_after (S.admit_answer words.old numbers.old i b) i b).joints }
 {
     admit_check(

@@ -5,6 +5,7 @@
 
 mod admitting;
 mod asking;
+mod clearing;
 mod coding;
 mod freeing;
 mod state;

@@ -1,12 +1,12 @@
 // A turn: the path that waits first gets 64 tests, and waits last or leaves.
-ghost use Rattle.std.specs.Prelude.{◌+◌, ◌*◌, ◌≤◌, ◌<◌, ◌≡◌, true, length, take};
-ghost use Rattle.lists.specs.Padding.{padded};
+ghost use Rattle.std.specs.Prelude.{◌+◌, ◌*◌, ◌≤◌, ◌<◌, ◌≡◌, true, length};
 ghost use Rattle.turn.specs.Lent.{Left};
 ghost use Rattle.machine.specs.Dividing.{staying};
 ghost use Rattle.cell.specs.State as State;
 ghost use Rattle.cell.specs.Turning as S;
 ghost use Rattle.cell.specs.Rows.{InRows};
 
+use crate::clearing::{clear_numbers, clear_words};
 use crate::coding::{bring_forward, path_in};
 use crate::state::{count_in, state_good, tolerances};
 use crate::{COUNT_AT, Entry, Outcome, Served};
@@ -84,14 +84,6 @@ impl Entry {
     }
 }
 
-// Zero from an index on.
-fn clear_words(words: &mut [u64], from: usize)
-    requires { from ≤ length words.old }
-    ensures { words.new ≡ padded (length words.old) 0 (take from words.old) }
-{
-    words[from..].fill(0);
-}
-
 // So many paths wait now: behind them all is zero.
 #[tactic(auto, unfolding(crate::specs::Turning::words_left, crate::specs::Turning::numbers_left))]
 fn leave(last: usize, words: &mut [u64], numbers: &mut [f64])
@@ -101,7 +93,7 @@ fn leave(last: usize, words: &mut [u64], numbers: &mut [f64])
 {
     clear_words(words, last * 9);
     words[COUNT_AT] = last as u64;
-    path::clear_from(numbers, last * 23);
+    clear_numbers(numbers, last * 23);
 }
 
 // Those behind the first move forward, and the first waits last or leaves.

@@ -16,7 +16,7 @@ use Rattle.float.specs.Units.{U, Is}
 use Rattle.float.proofs.UpTo.{UpTo, double_up_to}
 use Rattle.geometry.specs.declared.Turn.{Turn}
 use Rattle.geometry.specs.Direction.{unit_direction}
-use Rattle.geometry.proofs.FitVectors.{FitVec}
+use Rattle.geometry.specs.Doubles.{FitVec}
 use Rattle.geometry.proofs.Range.{plain_turn, Turnable, sized_turnable, turn_served}
 use Rattle.refusal.specs.declared.Refusal.{Refusal}
 use Rattle.refusal.specs.declared.Cause.{Cause}

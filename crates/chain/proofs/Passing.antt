@@ -1,11 +1,13 @@
 -- What a list of checks that passed says of each of them, and a check that refused of what it tests.
 use Prim.Native.Nat.{ℕ}
-use mathlib.Core.Path.{◌≡◌, refl, sym, ap}
+use mathlib.Core.Path.{◌≡◌, refl, sym, ap, ◌∙◌}
 use mathlib.Core.Bool.{Bool, true, false, false≢true}
-use Rattle.std.specs.Prelude.{Err, Ok}
+use Rattle.std.specs.Prelude.{Err, Ok, Result}
 use Rattle.refusal.specs.Numbers.{refusal}
 use Rattle.refusal.specs.declared.Cause.{Cause}
 use Rattle.refusal.specs.declared.Refusal.{Refusal}
+use Rattle.chain.specs.declared.Kinematics.{Kinematics}
+use Rattle.chain.specs.ChainBytes.{chain_unless}
 use Rattle.chain.specs.Checked.{Checked}
 use Rattle.chain.specs.Check.{demand, then}
 
@@ -36,7 +38,14 @@ pub demand_refused : (ok : Bool) (cause : Cause) (at : ℕ) {r : Refusal} → de
 demand_refused true cause at e = absurd (refused_passed (sym e))
 demand_refused false cause at {r} e = (refl, sym (ap (refusal_or r) e))
 
--- six checks in a row
+-- ---- a chain that is read into a lent place
+pub read_refused : {said : Checked} (k : Kinematics) {read : Result Kinematics Refusal} {r : Refusal} → chain_unless said k ≡ read → said ≡ Err r → read ≡ Err r
+read_refused k e was = sym e ∙ ap (λ (c : Checked). chain_unless c k) was
+
+pub read_served : {said : Checked} (k : Kinematics) {read : Result Kinematics Refusal} → chain_unless said k ≡ read → said ≡ Ok tt → read ≡ Ok k
+read_served k e was = sym e ∙ ap (λ (c : Checked). chain_unless c k) was
+
+-- ---- six checks in a row
 pub record SixPassed (a b c d e f : Checked) : Type 0 where
   pub first : a ≡ Ok tt
   pub second : b ≡ Ok tt

@@ -8,7 +8,8 @@ use Rattle.std.specs.Prelude.{None, Ok, Option, Some}
 use Rattle.refusal.specs.declared.Cause.{Cause}
 use Rattle.geometry.specs.declared.Vec3.{Vec3}
 use Rattle.geometry.specs.Direction.{all_finite, unit_direction, unit_or, along}
-use Rattle.geometry.proofs.FitVectors.{FitVec, unit_fits}
+use Rattle.geometry.specs.Doubles.{FitVec}
+use Rattle.geometry.proofs.FitVectors.{unit_fits}
 use Rattle.geometry.proofs.UnitSize.{UnitSized, unit_size}
 use Rattle.chain.specs.declared.Kinematics.{Kinematics}
 use Rattle.chain.specs.declared.Prepared.{Prepared}

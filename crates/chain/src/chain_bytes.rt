@@ -1,6 +1,6 @@
 // A chain from its bytes: the encoding that a job file and a caller of the library share. A breach is 29 with its
 // offset; count and letters are handed on for the chain check.
-ghost use Rattle.std.specs.Prelude.{◌+◌, ◌≤◌, ◌≡◌, true, false, not, eqb, length, position, MatchOption};
+ghost use Rattle.std.specs.Prelude.{◌+◌, ◌≤◌, ◌≡◌, true, false, not, eqb, length, position, MatchOption, IfErr};
 ghost use Rattle.chain.specs.Bytes.{vector_at};
 ghost use Rattle.chain.specs.ChainBytes as S;
 
@@ -175,16 +175,15 @@ impl ChainBytes<'_> {
         vector_at(self.bytes, 8 + self.w * self.count as usize)
     }
 
+    // Field by field, since the whole chain would be copied into its place.
     #[tactic(auto, unfolding(crate::specs::ChainBytes::chain_at))]
-    fn chain_at(self) -> Kinematics
-        ensures { result ≡ S.chain_at self.entry.w self.entry.bytes.now self.entry.count }
+    fn put_chain_at(self, k: &mut Kinematics)
+        ensures { k.new ≡ S.chain_at self.entry.w self.entry.bytes.now self.entry.count }
     {
-        Kinematics {
-            count: self.count,
-            first: rotary_at(self.w, self.bytes, 8),
-            second: self.second_at(),
-            spindle_axis: self.spindle_axis(),
-        }
+        k.count = self.count;
+        k.first = rotary_at(self.w, self.bytes, 8);
+        k.second = self.second_at();
+        k.spindle_axis = self.spindle_axis();
     }
 }
 
@@ -204,26 +203,40 @@ pub fn record_length(length: usize, count: u8) -> usize
 
 // The chain of that count with records of w bytes, or the first breach of its bytes.
 #[tactic(auto, unfolding(crate::specs::ChainBytes::read_count))]
-fn read_count(w: usize, bytes: &[u8], count: u8) -> Result<Kinematics, Refusal>
+fn read_count(w: usize, bytes: &[u8], count: u8, k: &mut Kinematics) -> Result<(), Refusal>
     requires { (72 ≤ w) × (w ≤ 80) }
-    ensures { result ≡ S.read_count w bytes.now count }
+    ensures chain { S.chain_unless result k.new ≡ S.read_count w bytes.now count }
+    ensures kept { IfErr result (λ r. k.new ≡ k.old) }
 {
     if !one_or_two(count) {
-        return Ok(no_chain(count));
+        *k = no_chain(count);
+        return Ok(());
     }
     demand(bytes.len() == 32 + w * count as usize, Cause::Malformed, 0)?;
     let chain = ChainBytes { bytes, w, count };
     chain.chain_fields()?;
-    Ok(chain.chain_at())
+    chain.put_chain_at(k);
+    Ok(())
 }
 
-// The chain, or the first breach of its bytes.
+// The chain in a place that is lent, or the first breach of its bytes, which keeps the place. By value its 208 bytes are
+// copied from call to call.
 #[tactic(auto, unfolding(crate::specs::ChainBytes::read_chain, crate::specs::ChainBytes::read_counted))]
-pub fn read_chain(bytes: &[u8]) -> Result<Kinematics, Refusal>
-    ensures { result ≡ S.read_chain bytes.now }
+pub fn read_chain_into(bytes: &[u8], k: &mut Kinematics) -> Result<(), Refusal>
+    ensures chain { S.chain_unless result k.new ≡ S.read_chain bytes.now }
+    ensures kept { IfErr result (λ r. k.new ≡ k.old) }
 {
     demand(!bytes.is_empty(), Cause::Malformed, 0)?;
     let count = byte_at(bytes, 0);
     let w = record_length(bytes.len(), count);
-    read_count(w, bytes, count)
+    read_count(w, bytes, count, k)
+}
+
+// The same by value.
+pub fn read_chain(bytes: &[u8]) -> Result<Kinematics, Refusal>
+    ensures { result ≡ S.read_chain bytes.now }
+{
+    let mut k = Kinematics::default();
+    read_chain_into(bytes, &mut k)?;
+    Ok(k)
 }

@@ -30,8 +30,8 @@ impl RotaryLimits {
 
 impl Kinematics {
     // The second rotary, where the count says that there is one.
-    pub fn second_rotary(self) -> Option<RotaryJoint>
-        ensures { MatchOption result (eqb self.count 2 ≡ false) (λ j. (eqb self.count 2 ≡ true) × (j ≡ self.second)) }
+    pub fn second_rotary(&self) -> Option<RotaryJoint>
+        ensures { MatchOption result (eqb self.now.count 2 ≡ false) (λ j. (eqb self.now.count 2 ≡ true) × (j ≡ self.now.second)) }
     {
         (self.count == 2).then_some(self.second)
     }
@@ -81,8 +81,8 @@ fn rotary_check(j: RotaryJoint, earlier: Option<u8>, index: u64) -> Result<(), R
 }
 
 #[tactic(auto, unfolding(crate::specs::Check::second_check))]
-fn second_check(k: Kinematics) -> Result<(), Refusal>
-    ensures { result ≡ S.second_check k }
+fn second_check(k: &Kinematics) -> Result<(), Refusal>
+    ensures { result ≡ S.second_check k.now }
 {
     match k.second_rotary() {
         Some(j) => rotary_check(j, Some(k.first.letter), 1),
@@ -99,8 +99,8 @@ pub fn one_or_two(count: u8) -> bool
 
 // The chain check of the Rust, but for name and model.
 #[tactic(auto, unfolding(crate::specs::Check::chain_check))]
-pub fn chain_check(k: Kinematics) -> Result<(), Refusal>
-    ensures { result ≡ S.chain_check k }
+pub fn chain_check(k: &Kinematics) -> Result<(), Refusal>
+    ensures { result ≡ S.chain_check k.now }
 {
     demand(one_or_two(k.count), Cause::RotaryCount, 0)?;
     rotary_check(k.first, None, 0)?;
@@ -138,15 +138,15 @@ fn rotary_within(j: RotaryJoint) -> bool
 
 // Those of the rotaries that the chain has.
 #[tactic(auto, unfolding(crate::specs::Check::chain_within))]
-pub fn chain_within(k: Kinematics) -> bool
-    ensures { result ≡ S.chain_within k }
+pub fn chain_within(k: &Kinematics) -> bool
+    ensures { result ≡ S.chain_within k.now }
 {
     rotary_within(k.first) && k.second_rotary().is_none_or(rotary_within)
 }
 
 #[tactic(auto, unfolding(crate::specs::Check::chain_sizes))]
-pub fn chain_sizes(k: Kinematics) -> Result<(), Refusal>
-    ensures { result ≡ S.chain_sizes k }
+pub fn chain_sizes(k: &Kinematics) -> Result<(), Refusal>
+    ensures { result ≡ S.chain_sizes k.now }
 {
     demand(chain_within(k), Cause::TooLarge, 0)
 }

@@ -180,15 +180,15 @@ pub fn length_good(tool_length: f64) -> bool
 // The joints and the tool's length stay two arguments of these: a struct of both would be made by the public functions,
 // which have them apart as C has, and taken apart again: sizes are judged one by one, and `reach` takes no angle.
 #[tactic(auto, unfolding(crate::specs::Forward::forward_sizes))]
-fn forward_sizes(k: Kinematics, j: Joints, tool_length: f64) -> bool
-    ensures { result ≡ S.forward_sizes k j tool_length }
+fn forward_sizes(k: &Kinematics, j: Joints, tool_length: f64) -> bool
+    ensures { result ≡ S.forward_sizes k.now j tool_length }
 {
     within(tool_length, 100000.0) && joints_within(j) && chain_within(k)
 }
 
 #[tactic(auto, unfolding(crate::specs::Forward::forward_check))]
-fn forward_check(k: Kinematics, j: Joints, tool_length: f64) -> Result<(), Refusal>
-    ensures { result ≡ S.forward_check k j tool_length }
+fn forward_check(k: &Kinematics, j: Joints, tool_length: f64) -> Result<(), Refusal>
+    ensures { result ≡ S.forward_check k.now j tool_length }
 {
     demand(length_good(tool_length), Cause::ToolLength, 0)?;
     chain_check(k)?;
@@ -207,8 +207,8 @@ fn posed(reached: ToolPose) -> Result<ToolPose, Refusal>
 
 // The tool pose in the part frame, or the first refusal.
 #[tactic(auto, unfolding(crate::specs::Forward::forward))]
-pub fn forward(k: Kinematics, j: Joints, tool_length: f64) -> Result<ToolPose, Refusal>
-    ensures { result ≡ S.forward k j tool_length }
+pub fn forward(k: &Kinematics, j: Joints, tool_length: f64) -> Result<ToolPose, Refusal>
+    ensures { result ≡ S.forward k.now j tool_length }
 {
     forward_check(k, j, tool_length)?;
     let p = prepare(k);
@@ -239,7 +239,7 @@ fn refused_read(
 ) -> Result<ToolPose, Refusal>
     ensures { result ≡ Steps.refused_read read j tool_length }
 {
-    refused_by(forward_check(read?, j, tool_length))
+    refused_by(forward_check(&read?, j, tool_length))
 }
 
 impl ChainBytes<'_> {

@@ -1,6 +1,6 @@
 // The rotary chain: one or two rotaries and the spindle, its bytes, its checks, and the forward map (impl Kinematics of
-// the Rust). A chain goes in by value. What computes is total; what refuses is one list of checks for each call
-// (specs/Check.antt).
+// the Rust). A chain goes in by reference: by value each call would copy its 208 bytes. What computes is total; what
+// refuses is one list of checks for each call (specs/Check.antt).
 #![tactic(auto)]
 
 ghost use Rattle.std.specs.Prelude.{◌+◌, ◌*◌, ◌≤◌, length};
@@ -14,7 +14,7 @@ mod prepare_chain;
 mod ready_chain;
 
 pub use bytes_at::{byte_at, number_at, number_of, spare, u16_at, vector_at, word_at};
-pub use chain_bytes::{no_rotary, read_chain, rotary_at, rotary_fields, zeros};
+pub use chain_bytes::{no_rotary, read_chain, read_chain_into, rotary_at, rotary_fields, zeros};
 pub use checks::{
     all_within, chain_check, chain_sizes, chain_within, demand, has_direction, joints_finite,
     joints_within, known_letter, one_or_two, within,
@@ -24,7 +24,7 @@ pub use forward_map::{
     pose_at, position, table_point, table_vector, turns_by, turns_of,
 };
 use geometry::{Turn, Vec3};
-pub use prepare_chain::prepare;
+pub use prepare_chain::{chain_fits, prepare};
 use refusal::Refusal;
 
 // Which slide carries a rotary: a table turns the work, a head the tool.

@@ -1,5 +1,6 @@
 // A checked chain with its axes normalised, made once for a call.
 ghost use Rattle.std.specs.Prelude.{◌≡◌};
+ghost use Rattle.chain.specs.Doubles.{ChainFits};
 ghost use Rattle.chain.specs.Prepared as S;
 
 use crate::{Kinematics, Prepared, RotaryJoint, Spin};
@@ -18,15 +19,21 @@ fn spin_of(j: RotaryJoint) -> Spin
 }
 
 #[tactic(auto, unfolding(crate::specs::Prepared::second_spin))]
-fn second_spin(k: Kinematics) -> Option<Spin>
-    ensures { result ≡ S.second_spin k }
+fn second_spin(k: &Kinematics) -> Option<Spin>
+    ensures { result ≡ S.second_spin k.now }
 {
     k.second_rotary().map(spin_of)
 }
 
+// What is handed over by value is of doubles, and of what a reference points to a proof knows no such thing. So who has a
+// chain by reference and needs it hands the chain over here. Nothing is done, and the compiler leaves the copy out.
+pub fn chain_fits(k: Kinematics)
+    ensures { ChainFits k }
+{}
+
 #[tactic(auto, unfolding(crate::specs::Prepared::unit_axis, crate::specs::Prepared::prepared))]
-pub fn prepare(k: Kinematics) -> Prepared
-    ensures { result ≡ S.prepared k }
+pub fn prepare(k: &Kinematics) -> Prepared
+    ensures { result ≡ S.prepared k.now }
 {
     Prepared {
         first: spin_of(k.first),

@@ -19,7 +19,7 @@ use Rattle.refusal.specs.declared.Refusal.{Refusal}
 use Rattle.chain.specs.declared.Kinematics.{Kinematics}
 use Rattle.chain.specs.Prepared.{prepared}
 use Rattle.path.specs.Solving.{poses_in, joint_numbers, whole_records}
-use Rattle.geometry.proofs.FitVectors.{FitVec}
+use Rattle.geometry.specs.Doubles.{FitVec}
 use Rattle.halving.specs.Halving.{Answer}
 use Rattle.halving.specs.Halving as Halving
 use Rattle.machine.specs.Dividing.{divided_in, poses_over, joints_over}

@@ -25,7 +25,8 @@ use Rattle.float.proofs.UpTo.{UpTo}
 use Rattle.refusal.specs.declared.Cause.{Cause}
 use Rattle.geometry.specs.Slerp.{slerp_axis, angle_between_deg}
 use Rattle.geometry.proofs.AngleBetween.{angle_between}
-use Rattle.geometry.proofs.FitVectors.{FitVec, unit_or_fits}
+use Rattle.geometry.specs.Doubles.{FitVec}
+use Rattle.geometry.proofs.FitVectors.{unit_or_fits}
 use Rattle.geometry.proofs.PlainSlerp.{plain_slerp, slerp_plain, slerp_fits}
 use Rattle.chain.specs.declared.Joints.{Joints}
 use Rattle.chain.specs.declared.Kinematics.{Kinematics}

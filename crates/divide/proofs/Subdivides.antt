@@ -19,7 +19,7 @@ use Rattle.chain.proofs.Passing.{refused_passed}
 use Rattle.lists.specs.Each.{Each}
 use Rattle.path.specs.Solving.{Along, pose_from, joint_numbers, solve_path}
 use Rattle.path.proofs.Along.{along_long}
-use Rattle.geometry.proofs.FitVectors.{FitVec}
+use Rattle.geometry.specs.Doubles.{FitVec}
 use Rattle.middle.specs.declared.Item.{Item}
 use Rattle.middle.specs.declared.Tolerances.{Tolerances}
 use Rattle.turn.specs.Items.{joints_from, item, items_in, space_in}

@@ -24,14 +24,14 @@ pub fn three_whole(poses: usize, room_poses: usize, room_joints: usize) -> bool
 // Every buffer's records, then the checks of solve_path with as much space as division has.
 #[tactic(auto, unfolding(crate::specs::Subdividing::both_check))]
 fn both_check(
-    k: Kinematics,
+    k: &Kinematics,
     start: Option<Joints>,
     cone: f64,
     numbers: usize,
     room_poses: usize,
     room_joints: usize,
 ) -> Result<(), Refusal>
-    ensures { result ≡ S.both_check k start cone numbers room_poses room_joints }
+    ensures { result ≡ S.both_check k.now start cone numbers room_poses room_joints }
 {
     demand(
         three_whole(numbers, room_poses, room_joints),
@@ -44,19 +44,20 @@ fn both_check(
 
 // The division of what is solved; here its refusals leave +0.0 in both outputs, so they are no `?`.
 fn divide_found(
-    k: Kinematics,
+    k: &Kinematics,
     tol: Tolerances,
     given: &[f64],
     poses: &mut [f64],
     joints: &mut [f64],
 ) -> Result<u64, DivisionError>
     requires { length given.now / 6 * 5 ≤ length joints.old }
-    ensures answer { result ≡ S.division_in (S.found_in k tol given.now (length poses.old) joints.old) }
-    ensures poses { poses.new ≡ S.poses_left (S.found_in k tol given.now (length poses.old) joints.old) poses.old }
-    ensures joints { joints.new ≡ S.joints_left (S.found_in k tol given.now (length poses.old) joints.old) joints.old }
-    ensures price { IfSolved k tol given.now (take (length given.now / 6 * 5) joints.old) (length poses.old) (length joints.old) result poses.new joints.new }
-    ensures later { Later k tol given.now (take (length given.now / 6 * 5) joints.old) (length poses.old) (length joints.old) result poses.new joints.new }
+    ensures answer { result ≡ S.division_in (S.found_in k.now tol given.now (length poses.old) joints.old) }
+    ensures poses { poses.new ≡ S.poses_left (S.found_in k.now tol given.now (length poses.old) joints.old) poses.old }
+    ensures joints { joints.new ≡ S.joints_left (S.found_in k.now tol given.now (length poses.old) joints.old) joints.old }
+    ensures price { IfSolved k.now tol given.now (take (length given.now / 6 * 5) joints.old) (length poses.old) (length joints.old) result poses.new joints.new }
+    ensures later { Later k.now tol given.now (take (length given.now / 6 * 5) joints.old) (length poses.old) (length joints.old) result poses.new joints.new }
 {
+    chain::chain_fits(*k);
     let numbers = given.len() / 6 * 5;
     let room = joints.len();
     if let Err(r) = division_check(k, tol, given, &joints[..numbers], poses.len(), room) {
@@ -69,7 +70,7 @@ fn divide_found(
 
 // A path solved and divided. A refusal at a pose leaves +0.0 too, and is no `From<Refusal>`, which says `Refused`.
 pub fn solve_and_divide(
-    k: Kinematics,
+    k: &Kinematics,
     given: &[f64],
     start: Option<Joints>,
     cone: f64,
@@ -77,11 +78,12 @@ pub fn solve_and_divide(
     poses: &mut [f64],
     joints: &mut [f64],
 ) -> Result<u64, DivisionError>
-    ensures answer { result ≡ S.division_in (S.solve_and_divide k given.now start cone tol (length poses.old) (length joints.old)) }
-    ensures poses { poses.new ≡ S.poses_left (S.solve_and_divide k given.now start cone tol (length poses.old) (length joints.old)) poses.old }
-    ensures joints { joints.new ≡ S.joints_left (S.solve_and_divide k given.now start cone tol (length poses.old) (length joints.old)) joints.old }
-    ensures price { SolvedAndDivided k given.now start cone tol result poses.old joints.old poses.new joints.new }
+    ensures answer { result ≡ S.division_in (S.solve_and_divide k.now given.now start cone tol (length poses.old) (length joints.old)) }
+    ensures poses { poses.new ≡ S.poses_left (S.solve_and_divide k.now given.now start cone tol (length poses.old) (length joints.old)) poses.old }
+    ensures joints { joints.new ≡ S.joints_left (S.solve_and_divide k.now given.now start cone tol (length poses.old) (length joints.old)) joints.old }
+    ensures price { SolvedAndDivided k.now given.now start cone tol result poses.old joints.old poses.new joints.new }
 {
+    chain::chain_fits(*k);
     both_check(k, start, cone, given.len(), poses.len(), joints.len())?;
     if let Err(r) = path::solve_checked(k, given, start, cone, joints) {
         poses.fill(0.0);

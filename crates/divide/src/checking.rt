@@ -53,8 +53,8 @@ fn sets_within(joints: &[f64]) -> bool
 }
 
 #[tactic(auto, unfolding(crate::specs::Checking::division_sizes))]
-fn division_sizes(k: Kinematics, poses: &[f64], joints: &[f64]) -> bool
-    ensures { result ≡ S.division_sizes k poses.now joints.now }
+fn division_sizes(k: &Kinematics, poses: &[f64], joints: &[f64]) -> bool
+    ensures { result ≡ S.division_sizes k.now poses.now joints.now }
 {
     chain::chain_within(k) && tips_within(poses) && sets_within(joints) && poses.len() / 6 <= 100000
 }
@@ -72,14 +72,14 @@ pub fn four_whole(poses: usize, joints: usize, room_poses: usize, room_joints: u
 // behind the checks; a second struct of the two as given would be taken apart by every check, since each asks of one.
 #[tactic(auto, unfolding(crate::specs::Checking::division_check, crate::specs::Checking::checks_in_order))]
 pub fn division_check(
-    k: Kinematics,
+    k: &Kinematics,
     tol: Tolerances,
     poses: &[f64],
     joints: &[f64],
     room_poses: usize,
     room_joints: usize,
 ) -> Result<(), Refusal>
-    ensures checked { result ≡ S.division_check k tol poses.now joints.now room_poses room_joints }
+    ensures checked { result ≡ S.division_check k.now tol poses.now joints.now room_poses room_joints }
     ensures fit { result ≡ Ok tt → S.FitUpTo (length joints.now) joints.now }
 {
     let whole = four_whole(poses.len(), joints.len(), room_poses, room_joints);

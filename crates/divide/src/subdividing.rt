@@ -46,15 +46,15 @@ fn cleared(count: usize, out: &mut Outputs) -> Result<u64, Stop>
 // The given poses and joint sets are lent elsewhere. Its first lines are those of `halve_solved`: one function of both
 // would take the last call as a closure, and its clauses, with what they ask of that, are longer than those lines.
 fn halve_given(
-    k: Kinematics,
+    k: &Kinematics,
     tol: Tolerances,
     given: &GivenPath,
     poses: &mut [f64],
     joints: &mut [f64],
 ) -> Result<u64, Stop>
-    ensures answer { result ≡ divided_in (S.division_within (prepared k) tol (space_in (length poses.old) (length joints.old)) (items_in given.now.count given.now.poses.now given.now.joints.now)) }
-    ensures poses { poses.new ≡ poses_over (S.division_within (prepared k) tol (space_in (length poses.old) (length joints.old)) (items_in given.now.count given.now.poses.now given.now.joints.now)) poses.old }
-    ensures joints { joints.new ≡ joints_over (S.division_within (prepared k) tol (space_in (length poses.old) (length joints.old)) (items_in given.now.count given.now.poses.now given.now.joints.now)) joints.old }
+    ensures answer { result ≡ divided_in (S.division_within (prepared k.now) tol (space_in (length poses.old) (length joints.old)) (items_in given.now.count given.now.poses.now given.now.joints.now)) }
+    ensures poses { poses.new ≡ poses_over (S.division_within (prepared k.now) tol (space_in (length poses.old) (length joints.old)) (items_in given.now.count given.now.poses.now given.now.joints.now)) poses.old }
+    ensures joints { joints.new ≡ joints_over (S.division_within (prepared k.now) tol (space_in (length poses.old) (length joints.old)) (items_in given.now.count given.now.poses.now given.now.joints.now)) joints.old }
 {
     let space = space_in(poses.len(), joints.len());
     let mut out = Outputs {
@@ -71,16 +71,16 @@ fn halve_given(
 
 // The joint sets stand at the front of their output.
 pub fn halve_solved(
-    k: Kinematics,
+    k: &Kinematics,
     tol: Tolerances,
     given: &[f64],
     poses: &mut [f64],
     joints: &mut [f64],
 ) -> Result<u64, Stop>
     requires { length given.now ≡ length given.now / 6 * 6 }
-    ensures answer { result ≡ divided_in (S.division_within (prepared k) tol (space_in (length poses.old) (length joints.old)) (S.given given.now joints.old)) }
-    ensures poses { poses.new ≡ poses_over (S.division_within (prepared k) tol (space_in (length poses.old) (length joints.old)) (S.given given.now joints.old)) poses.old }
-    ensures joints { joints.new ≡ joints_over (S.division_within (prepared k) tol (space_in (length poses.old) (length joints.old)) (S.given given.now joints.old)) joints.old }
+    ensures answer { result ≡ divided_in (S.division_within (prepared k.now) tol (space_in (length poses.old) (length joints.old)) (S.given given.now joints.old)) }
+    ensures poses { poses.new ≡ poses_over (S.division_within (prepared k.now) tol (space_in (length poses.old) (length joints.old)) (S.given given.now joints.old)) poses.old }
+    ensures joints { joints.new ≡ joints_over (S.division_within (prepared k.now) tol (space_in (length poses.old) (length joints.old)) (S.given given.now joints.old)) joints.old }
 {
     let count = given.len() / 6;
     let space = space_in(poses.len(), joints.len());
@@ -98,19 +98,20 @@ pub fn halve_solved(
 
 // The given poses with their joint sets, and poses between them until both tolerances hold.
 pub fn subdivide_path(
-    k: Kinematics,
+    k: &Kinematics,
     tol: Tolerances,
     given: &[f64],
     solved: &[f64],
     poses: &mut [f64],
     joints: &mut [f64],
 ) -> Result<u64, DivisionError>
-    ensures answer { result ≡ S.division_in (S.subdivide_path k tol given.now solved.now (length poses.old) (length joints.old)) }
-    ensures poses { poses.new ≡ S.poses_left (S.subdivide_path k tol given.now solved.now (length poses.old) (length joints.old)) poses.old }
-    ensures joints { joints.new ≡ S.joints_left (S.subdivide_path k tol given.now solved.now (length poses.old) (length joints.old)) joints.old }
-    ensures price { IfSolved k tol given.now solved.now (length poses.old) (length joints.old) result poses.new joints.new }
-    ensures later { Later k tol given.now solved.now (length poses.old) (length joints.old) result poses.new joints.new }
+    ensures answer { result ≡ S.division_in (S.subdivide_path k.now tol given.now solved.now (length poses.old) (length joints.old)) }
+    ensures poses { poses.new ≡ S.poses_left (S.subdivide_path k.now tol given.now solved.now (length poses.old) (length joints.old)) poses.old }
+    ensures joints { joints.new ≡ S.joints_left (S.subdivide_path k.now tol given.now solved.now (length poses.old) (length joints.old)) joints.old }
+    ensures price { IfSolved k.now tol given.now solved.now (length poses.old) (length joints.old) result poses.new joints.new }
+    ensures later { Later k.now tol given.now solved.now (length poses.old) (length joints.old) result poses.new joints.new }
 {
+    chain::chain_fits(*k);
     division_check(k, tol, given, solved, poses.len(), joints.len())?;
     let path = GivenPath {
         count: given.len() / 6,

@@ -16,7 +16,8 @@ use Rattle.geometry.specs.declared.Vec3.{Vec3}
 use Rattle.geometry.specs.Vector.{dot, cross, norm}
 use Rattle.geometry.specs.Direction.{along, unit_direction}
 use Rattle.geometry.specs.Slerp.{with, half_turn_degrees, angle_between_deg}
-use Rattle.geometry.proofs.FitVectors.{FitVec, dot_fits}
+use Rattle.geometry.specs.Doubles.{FitVec}
+use Rattle.geometry.proofs.FitVectors.{dot_fits}
 use Rattle.geometry.proofs.Bounded.{SmallVec, small_dot, small_cross}
 use Rattle.geometry.proofs.Lengths.{norm_small}
 use Rattle.geometry.proofs.UnitSize.{unit_small}

@@ -16,7 +16,7 @@ use Rattle.geometry.specs.declared.Turn.{Turn}
 use Rattle.geometry.specs.Vector as G
 use Rattle.geometry.specs.Direction.{all_finite}
 use Rattle.geometry.specs.Turn.{still, turn_of, rotate_vector, rotate_point}
-use Rattle.geometry.proofs.FitVectors.{FitVec}
+use Rattle.geometry.specs.Doubles.{FitVec}
 use Rattle.geometry.proofs.TurnPair.{TurnSized, turn_pair}
 
 -- ---- vectors

@@ -22,7 +22,8 @@ use Rattle.geometry.specs.declared.Turn.{Turn}
 use Rattle.geometry.specs.Vector as G
 use Rattle.geometry.specs.Turn.{rotate_vector}
 use Rattle.geometry.specs.Direction.{smallest, tiny, with_length, unit_direction}
-use Rattle.geometry.proofs.FitVectors.{FitVec, added_fits, dot_fits}
+use Rattle.geometry.specs.Doubles.{FitVec}
+use Rattle.geometry.proofs.FitVectors.{added_fits, dot_fits}
 use Rattle.geometry.proofs.Bounded.{SmallVec, vec_raise, vec_finite}
 use Rattle.geometry.proofs.Lengths.{norm_small}
 use Rattle.geometry.proofs.UnitSize.{UnitSized, S, smallest_is, dot_least}

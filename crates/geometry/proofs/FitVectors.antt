@@ -1,5 +1,5 @@
--- Vectors of doubles: `FitVec v` says that its three numbers are doubles, as those of every vector that code has. What
--- `scale`, `dot` and `unit_direction` make are doubles whatever they are made of.
+-- Vectors of doubles, as every vector is that code has. What `scale`, `dot` and `unit_direction` make are doubles whatever
+-- they are made of.
 use mathlib.Core.Path.{◌≡◌, subst}
 use mathlib.Core.Bool.{Bool, true, false, not, cond}
 use lib.Dec.{T}
@@ -10,11 +10,9 @@ use Rattle.std.specs.Prelude.{None, Option, Some}
 use Rattle.float.specs.Helpers.{nought, one}
 use Rattle.root.specs.Root.{root}
 use Rattle.geometry.specs.declared.Vec3.{Vec3}
+use Rattle.geometry.specs.Doubles.{FitVec}
 use Rattle.geometry.specs.Vector.{add, scale, dot, over}
 use Rattle.geometry.specs.Direction.{all_finite, tiny, with_length, unit_direction, along, unit_or}
-
-abbrev pub FitVec : Vec3 → Type 0
-FitVec v = T (fits binary64 v.x) × T (fits binary64 v.y) × T (fits binary64 v.z)
 
 pub added_fits : (v w : Vec3) → FitVec (add v w)
 unfolding add

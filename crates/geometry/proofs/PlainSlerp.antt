@@ -22,7 +22,8 @@ use Rattle.geometry.specs.declared.Vec3.{Vec3}
 use Rattle.geometry.specs.Vector.{add, scale, dot, cross, minus, times, over}
 use Rattle.geometry.specs.Direction.{along, unit_direction, unit_or}
 use Rattle.geometry.specs.Slerp.{flat, pi, side_helper, half_turn, weighted, slerp_cosine, slerp_axis}
-use Rattle.geometry.proofs.FitVectors.{FitVec, dot_fits, unit_fits, unit_or_fits}
+use Rattle.geometry.specs.Doubles.{FitVec}
+use Rattle.geometry.proofs.FitVectors.{dot_fits, unit_fits, unit_or_fits}
 use Rattle.geometry.proofs.Bounded.{SmallVec, small_dot}
 use Rattle.geometry.proofs.UnitSize.{unit_small}
 

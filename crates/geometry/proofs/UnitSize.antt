@@ -33,7 +33,8 @@ use Rattle.root.proofs.RootSizes.{root_fits, root_finite, RootSquare, root_squar
 use Rattle.geometry.specs.declared.Vec3.{Vec3}
 use Rattle.geometry.specs.Vector as G
 use Rattle.geometry.specs.Direction.{smallest, all_finite, tiny, with_length, unit_direction}
-use Rattle.geometry.proofs.FitVectors.{FitVec, dot_fits}
+use Rattle.geometry.specs.Doubles.{FitVec}
+use Rattle.geometry.proofs.FitVectors.{dot_fits}
 use Rattle.geometry.proofs.Bounded.{SmallVec, held_vector}
 use Rattle.geometry.proofs.Lengths.{DotAbove, dot_above}
 

@@ -5,3 +5,5 @@ pub mod Direction
 pub mod Turn
 pub mod Rigid
 pub mod Slerp
+-- But for this one, which says what numbers are handed over.
+pub mod Doubles

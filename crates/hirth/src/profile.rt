@@ -60,8 +60,8 @@ fn close(axis: Vec3, wanted: Vec3, tolerance: f64) -> bool
 
 // The limits again, of joints on their teeth.
 #[tactic(auto, unfolding(crate::specs::Profile::limited))]
-fn limited(k: Kinematics, j: Joints) -> Result<Joints, Refusal>
-    ensures { result ≡ S.limited k j }
+fn limited(k: &Kinematics, j: Joints) -> Result<Joints, Refusal>
+    ensures { result ≡ S.limited k.now j }
 {
     let within = path::inside(path::bounds_of(k), j);
     demand(within, Cause::ToothMisses, 0)?;
@@ -72,13 +72,13 @@ fn limited(k: Kinematics, j: Joints) -> Result<Joints, Refusal>
 // ToothMisses.
 #[tactic(auto, unfolding(crate::specs::Profile::held))]
 fn held(
-    k: Kinematics,
+    k: &Kinematics,
     wanted: Vec3,
     tolerance: f64,
     axis: Vec3,
     j: Joints,
 ) -> Result<Joints, Refusal>
-    ensures { result ≡ S.held k wanted tolerance axis j }
+    ensures { result ≡ S.held k.now wanted tolerance axis j }
 {
     demand(close(axis, wanted, tolerance), Cause::ToothMisses, 0)?;
     limited(k, j)
@@ -86,13 +86,13 @@ fn held(
 
 // A chosen solution on its teeth: by the steps of `inverse` for a pair of angles, with the turns of the teeth.
 fn toothed(
-    ready: &ReadyChain,
+    ready: &ReadyChain<'_>,
     pose: ToolPose,
     tool_length: f64,
     tolerance: f64,
     j: Joints,
 ) -> Result<Joints, Refusal>
-    ensures { result ≡ S.toothed ready.now.k pose tool_length tolerance j }
+    ensures { result ≡ S.toothed ready.now.k.now pose tool_length tolerance j }
 {
     let p = ready.p;
     let angles = snapped_angles(j);
@@ -105,14 +105,14 @@ fn toothed(
 // One of the joint sets that reach the pose, on its teeth, or the first refusal: Tolerance, then those of `choose`,
 // then ToothMisses.
 pub fn choose_tooth(
-    k: Kinematics,
+    k: &Kinematics,
     pose: ToolPose,
     tool_length: f64,
     choice: Choice,
     tolerance: f64,
 ) -> Result<Joints, Refusal>
-    ensures name { result ≡ S.choose_tooth k pose tool_length choice tolerance }
-    ensures promised { Promise.Promised k pose tool_length choice tolerance result }
+    ensures name { result ≡ S.choose_tooth k.now pose tool_length choice tolerance }
+    ensures promised { Promise.Promised k.now pose tool_length choice tolerance result }
 {
     demand(divide::tolerance_good(tolerance), Cause::Tolerance, 0)?;
     let ready = ReadyChain::of(k);

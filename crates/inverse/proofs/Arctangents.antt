@@ -19,7 +19,8 @@ use Rattle.trig.proofs.Laws.{arctangent_is}
 use Rattle.geometry.specs.declared.Vec3.{Vec3}
 use Rattle.geometry.specs.Vector.{scale, dot, cross, norm, plus, minus, times, over}
 use Rattle.geometry.proofs.Bounded.{SmallVec, vec_raise, small_dot, small_cross, vec_add, vec_sub, vec_scale}
-use Rattle.geometry.proofs.FitVectors.{FitVec, dot_fits}
+use Rattle.geometry.specs.Doubles.{FitVec}
+use Rattle.geometry.proofs.FitVectors.{dot_fits}
 use Rattle.geometry.proofs.Lengths.{dot_nn, norm_small}
 use Rattle.geometry.proofs.Quotients.{long_enough, not_short, over_length}
 use Rattle.geometry.proofs.UnitSize.{unit_small}

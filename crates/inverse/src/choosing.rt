@@ -109,12 +109,12 @@ impl Choice {
 // `choose` of a chain that the caller has prepared.
 #[tactic(auto, unfolding(crate::specs::Choose::choose))]
 pub fn choose_ready(
-    ready: &ReadyChain,
+    ready: &ReadyChain<'_>,
     pose: ToolPose,
     tool_length: f64,
     choice: Choice,
 ) -> Result<Joints, Refusal>
-    ensures { result ≡ S.choose ready.now.k pose tool_length choice }
+    ensures { result ≡ S.choose ready.now.k.now pose tool_length choice }
 {
     let solutions = inverse_ready(ready, pose, tool_length, choice.hint())?;
     Ok(choice.pick(&solutions))
@@ -122,12 +122,12 @@ pub fn choose_ready(
 
 // One of the joint sets that `inverse` gives, or its refusal.
 pub fn choose(
-    k: Kinematics,
+    k: &Kinematics,
     pose: ToolPose,
     tool_length: f64,
     choice: Choice,
 ) -> Result<Joints, Refusal>
-    ensures { result ≡ S.choose k pose tool_length choice }
+    ensures { result ≡ S.choose k.now pose tool_length choice }
 {
     choose_ready(&ReadyChain::of(k), pose, tool_length, choice)
 }

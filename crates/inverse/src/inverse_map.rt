@@ -109,12 +109,12 @@ fn solved_check(raw: RawPair, pairs: &[Angles], solutions: &[Joints]) -> Result<
 // The answers of a checked chain.
 #[tactic(auto, unfolding(crate::specs::Inverse::solved, crate::specs::Inverse::raw_angles, crate::specs::Inverse::wrapped))]
 fn solved(
-    ready: &ReadyChain,
+    ready: &ReadyChain<'_>,
     pose: ToolPose,
     tool_length: f64,
     hint: Angles,
 ) -> Result<Solutions, Refusal>
-    ensures { result ≡ S.solved ready.now.k pose.axis pose.tip tool_length hint }
+    ensures { result ≡ S.solved ready.now.k.now pose.axis pose.tip tool_length hint }
 {
     let k = ready.k;
     let raw = orientation_angles(ready.p, pose.axis, hint);
@@ -139,8 +139,8 @@ pub fn angles_within(angles: Angles) -> bool
 }
 
 #[tactic(auto, unfolding(crate::specs::Inverse::inverse_sizes))]
-fn inverse_sizes(k: Kinematics, tip: Vec3, tool_length: f64, hint: Angles) -> bool
-    ensures { result ≡ S.inverse_sizes k tip tool_length hint }
+fn inverse_sizes(k: &Kinematics, tip: Vec3, tool_length: f64, hint: Angles) -> bool
+    ensures { result ≡ S.inverse_sizes k.now tip tool_length hint }
 {
     within(tool_length, 100000.0)
         && chain::all_within(tip, 100000.0)
@@ -150,12 +150,12 @@ fn inverse_sizes(k: Kinematics, tip: Vec3, tool_length: f64, hint: Angles) -> bo
 
 #[tactic(auto, unfolding(crate::specs::Inverse::inverse_check))]
 fn inverse_check(
-    k: Kinematics,
+    k: &Kinematics,
     pose: ToolPose,
     tool_length: f64,
     hint: Angles,
 ) -> Result<(), Refusal>
-    ensures { result ≡ S.inverse_check k pose tool_length hint }
+    ensures { result ≡ S.inverse_check k.now pose tool_length hint }
 {
     demand(chain::length_good(tool_length), Cause::ToolLength, 0)?;
     demand(chain::has_direction(pose.axis), Cause::ToolAxisZero, 0)?;
@@ -172,12 +172,12 @@ fn inverse_check(
 // `inverse` of a chain that the caller has prepared.
 #[tactic(auto, unfolding(crate::specs::Inverse::inverse))]
 pub fn inverse_ready(
-    ready: &ReadyChain,
+    ready: &ReadyChain<'_>,
     pose: ToolPose,
     tool_length: f64,
     hint: Angles,
 ) -> Result<Solutions, Refusal>
-    ensures value { result ≡ S.inverse ready.now.k pose tool_length hint }
+    ensures value { result ≡ S.inverse ready.now.k.now pose tool_length hint }
     ensures count { IfOk result (λ s. length s.items ≤ 50) }
 {
     inverse_check(ready.k, pose, tool_length, hint)?;
@@ -188,12 +188,12 @@ pub fn inverse_ready(
 // Every joint set that reaches the pose, in order, or the first refusal. The four parameters are C's, as those of
 // `choose`: the caller has them apart, and `inverse(Asked { k, pose, tool_length, hint })` would be no shorter.
 pub fn inverse(
-    k: Kinematics,
+    k: &Kinematics,
     pose: ToolPose,
     tool_length: f64,
     hint: Angles,
 ) -> Result<Solutions, Refusal>
-    ensures value { result ≡ S.inverse k pose tool_length hint }
+    ensures value { result ≡ S.inverse k.now pose tool_length hint }
     ensures count { IfOk result (λ s. length s.items ≤ 50) }
 {
     inverse_ready(&ReadyChain::of(k), pose, tool_length, hint)

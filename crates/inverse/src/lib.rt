@@ -100,15 +100,15 @@ pub type Solutions = ArrayVec<Joints, 50>;
 
 // A chain with what it is prepared to: crate hirth needs that for the teeth too, and so it is made once.
 #[derive(Clone, Copy)]
-pub struct ReadyChain {
-    pub k: Kinematics,
+pub struct ReadyChain<'a> {
+    pub k: &'a Kinematics,
     pub p: Prepared,
-    pub ghost made: { p ≡ prepared k },
+    pub ghost made: { p ≡ prepared k.now },
 }
 
-impl ReadyChain {
-    pub fn of(k: Kinematics) -> ReadyChain
-        ensures { result.k ≡ k }
+impl ReadyChain<'_> {
+    pub fn of(k: &Kinematics) -> ReadyChain<'_>
+        ensures { result.k.now ≡ k.now }
     {
         let p = chain::prepare(k);
         ReadyChain { k, p }

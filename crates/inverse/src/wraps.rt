@@ -116,8 +116,8 @@ fn add_raw(
 
 // A second rotary that the chain has not is without limits.
 #[tactic(auto, unfolding(crate::specs::Wraps::second_travel))]
-pub fn second_travel(k: Kinematics) -> Option<RotaryLimits>
-    ensures { result ≡ S.second_travel k }
+pub fn second_travel(k: &Kinematics) -> Option<RotaryLimits>
+    ensures { result ≡ S.second_travel k.now }
 {
     k.second_rotary()?.limits
 }

@@ -23,8 +23,8 @@ fn turns_within(wind: f64) -> u64
 }
 
 #[tactic(auto, unfolding(crate::specs::Cable::rest_of))]
-fn rest_of(k: Kinematics, rotary: usize) -> f64
-    ensures { result ≡ S.rest_of k rotary }
+fn rest_of(k: &Kinematics, rotary: usize) -> f64
+    ensures { result ≡ S.rest_of k.now rotary }
 {
     if rotary == 0 {
         k.first.rest
@@ -68,15 +68,15 @@ fn survey(rest: f64, rotary: usize, joints: &[f64]) -> Survey
 }
 
 #[tactic(auto, unfolding(crate::specs::Cable::cable_sizes))]
-fn cable_sizes(k: Kinematics, within: bool) -> bool
-    ensures { result ≡ S.cable_sizes k within }
+fn cable_sizes(k: &Kinematics, within: bool) -> bool
+    ensures { result ≡ S.cable_sizes k.now within }
 {
     chain::chain_within(k) && within
 }
 
 #[tactic(auto, unfolding(crate::specs::Cable::cable_check))]
-fn cable_check(k: Kinematics, numbers: usize, s: Survey) -> Result<(), Refusal>
-    ensures { result ≡ S.cable_check k numbers s }
+fn cable_check(k: &Kinematics, numbers: usize, s: Survey) -> Result<(), Refusal>
+    ensures { result ≡ S.cable_check k.now numbers s }
 {
     demand(numbers % 5 == 0, Cause::LengthsDiffer, 0)?;
     chain::chain_check(k)?;
@@ -87,8 +87,8 @@ fn cable_check(k: Kinematics, numbers: usize, s: Survey) -> Result<(), Refusal>
 // The cable number of the rotary with that index, 0 of one that the chain lacks. Any index may be asked for, so no enum
 // of two rotaries: that would ask more of callers.
 #[tactic(auto, unfolding(crate::specs::Cable::cable_number, crate::specs::Cable::cable_of))]
-pub fn cable_number(k: Kinematics, joints: &[f64], rotary: usize) -> Result<u64, Refusal>
-    ensures { result ≡ S.cable_number k joints.now rotary }
+pub fn cable_number(k: &Kinematics, joints: &[f64], rotary: usize) -> Result<u64, Refusal>
+    ensures { result ≡ S.cable_number k.now joints.now rotary }
 {
     let rest = rest_of(k, rotary);
     let s = survey(rest, rotary, joints);

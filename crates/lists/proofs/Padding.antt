@@ -1,12 +1,12 @@
 -- Laws of a padded list, and a loop that stores one constant into a list from an index on: a record for its invariant, and a
--- law each for its start, its step and its end.
-use Prim.Native.Nat.{ℕ, ◌+◌, ◌-◌, ◌≤◌, ◌<◌}
+-- law each for its start, its step, a step that stores nothing, and its end.
+use Prim.Native.Nat.{ℕ, suc, ◌+◌, ◌-◌, ◌≤◌, ◌<◌}
 use native.Mathlib.Nat.{sub-zero}
 use native.Mathlib.Omega.{arith}
-use mathlib.Core.Path.{◌≡◌, refl, sym, ◌∙◌}
+use mathlib.Core.Path.{◌≡◌, refl, sym, ap, ◌∙◌}
 use mathlib.Core.List.{List, [], ◌∷◌, ◌++◌, append_assoc, append-nil}
 use lib.ListN.{length, take, get_or, set, replicate, length-set, length-append, length-replicate, get_or-replicate, replicate-append-replicate}
-use lib.Seq.{take_all, take-append-le, get_or-append-add, length-take-le}
+use lib.Seq.{take_all, take-suc, take-append-le, get_or-append-add, length-take-le}
 use Rattle.lists.specs.Padding.{padded}
 use Rattle.lists.proofs.Fold.{pushed}
 
@@ -64,6 +64,19 @@ module _ {A : Type 0} {z : A} {o : List A} {f : ℕ} where
         within = omega arith;
         as_long = length-set l j z ∙ g.as_long;
         front = rw (pushed l j z, g.front, padded_more j z (take f o));
+      }
+
+  -- what is z already may stay as it is
+  pub clearing_kept : {l : List A} {j : ℕ} (d : A) → j < length l → get_or l j d ≡ z → Clearing z o f l j → Clearing z o f l (j + 1)
+  clearing_kept {l} {j} d h is g =
+      let k : f ≤ length o = omega (arith, g.from, g.within) in
+      let e : length (take f o) ≤ j = rw (length-take-le f o k) g.from in
+      let one : j + 1 ≡ suc j = omega arith in
+      record {
+        from = omega arith;
+        within = omega arith;
+        as_long = g.as_long;
+        front = ap (λ (n : ℕ). take n l) one ∙ take-suc l j d h ∙ rw (g.front, is) (sym (padded_more j z (take f o) e));
       }
 
   pub clearing_end : {l : List A} {j : ℕ} → length l ≤ j → Clearing z o f l j → l ≡ padded (length o) z (take f o)

@@ -6,7 +6,8 @@ use Rattle.geometry.specs.declared.Vec3.{Vec3}
 use Rattle.geometry.specs.declared.Turn.{Turn}
 use Rattle.geometry.specs.Turn.{rotate_vector}
 use Rattle.geometry.specs.Direction.{all_finite}
-use Rattle.geometry.proofs.FitVectors.{FitVec, added_fits, unit_or_fits}
+use Rattle.geometry.specs.Doubles.{FitVec}
+use Rattle.geometry.proofs.FitVectors.{added_fits, unit_or_fits}
 use Rattle.refusal.specs.declared.Cause.{Cause}
 use Rattle.chain.specs.declared.Joints.{Joints}
 use Rattle.chain.specs.declared.Kinematics.{Kinematics}

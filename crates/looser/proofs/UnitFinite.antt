@@ -4,7 +4,7 @@ use mathlib.Core.Bool.{true}
 use Rattle.std.specs.Prelude.{None, Option, Some}
 use Rattle.geometry.specs.declared.Vec3.{Vec3}
 use Rattle.geometry.specs.Direction.{all_finite, along, unit_direction, unit_or}
-use Rattle.geometry.proofs.FitVectors.{FitVec}
+use Rattle.geometry.specs.Doubles.{FitVec}
 use Rattle.geometry.proofs.Bounded.{vec_finite}
 use Rattle.geometry.proofs.UnitSize.{unit_small}
 

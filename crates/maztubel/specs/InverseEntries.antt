@@ -58,10 +58,14 @@ abbrev pub choose_read : Result Kinematics Refusal → ToolPose → Float → Ch
 choose_read (Err r) pose tool choice = Err r
 choose_read (Ok k) pose tool choice = choose k pose tool choice
 
+-- the lengths of a pose, of a hint and of the lent joints, and the number of a choice
+abbrev pub choice_lengths : ℕ → ℕ → ℕ → ℕ → Bool
+choice_lengths pose hint room choice = eqb pose 6 && eqb hint 2 && eqb room 5 && ltb choice 3
+
 -- `room` is how many numbers the lent joints have
 unfoldable pub choose_of : List ℕ → List Float → Float → ℕ → List Float → ℕ → Result Joints Refusal
 choose_of chain pose tool choice hint room =
-    cond (eqb (length pose) 6 && eqb (length hint) 2 && eqb room 5 && ltb choice 3)
+    cond (choice_lengths (length pose) (length hint) room choice)
     (choose_read (read_chain chain) (pose_in pose) tool (choice_of choice (angles_in hint)))
     (Err lengths_refused)
 

@@ -1,6 +1,6 @@
 -- What the entry of the positioning profile answers, from the bytes and numbers that it is lent: 19 before all else,
 -- then 20, 29, and what the profile answers.
-use Rattle.std.specs.Prelude.{ℕ, ◌≡◌, ◌&&◌, cond, List, eqb, ltb, length, Float, Err, Ok, Result}
+use Rattle.std.specs.Prelude.{ℕ, ◌≡◌, cond, List, length, Float, Err, Ok, Result}
 use Rattle.refusal.specs.declared.Refusal.{Refusal}
 use Rattle.refusal.specs.Numbers.{refusal}
 use Rattle.refusal.specs.declared.Cause.{Cause}
@@ -12,7 +12,7 @@ use Rattle.inverse.specs.declared.Choice.{Choice}
 use Rattle.divide.specs.Checking.{tolerance_good}
 use Rattle.hirth.specs.Profile.{choose_tooth}
 use Rattle.maztubel.specs.Lent.{number_in, place_in, letter_in}
-use Rattle.maztubel.specs.InverseEntries.{pose_in, angles_in, choice_of, lengths_refused, joints_over}
+use Rattle.maztubel.specs.InverseEntries.{pose_in, angles_in, choice_lengths, choice_of, lengths_refused, joints_over}
 
 abbrev pub tolerance_refused : Refusal
 tolerance_refused = refusal Cause.Tolerance 0
@@ -25,7 +25,7 @@ tooth_read (Ok k) pose tool choice tol = choose_tooth k pose tool choice tol
 unfoldable pub tooth_of : List ℕ → List Float → Float → ℕ → List Float → Float → ℕ → Result Joints Refusal
 tooth_of chain pose tool choice hint tol room =
     cond (tolerance_good tol)
-    (cond (eqb (length pose) 6 && eqb (length hint) 2 && eqb room 5 && ltb choice 3)
+    (cond (choice_lengths (length pose) (length hint) room choice)
     (tooth_read (read_chain chain) (pose_in pose) tool (choice_of choice (angles_in hint)) tol)
     (Err lengths_refused))
     (Err tolerance_refused)

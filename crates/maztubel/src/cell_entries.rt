@@ -11,7 +11,7 @@ ghost use Rattle.maztubel.specs.CellEntries as S;
 
 use crate::lent::{hand_back, number_in};
 use cell::{Outcome, Served};
-use chain::demand;
+use chain::{Kinematics, demand};
 use refusal::{Cause, Refusal};
 
 // The number of no path.
@@ -134,9 +134,10 @@ fn admit_of(
     cell::state_check(words, numbers)?;
     let whole = divide::four_whole(poses.len(), joints.len(), out_poses.len(), out_joints.len());
     demand(whole, Cause::LengthsDiffer, 0)?;
-    let k = chain::read_chain(chain)?;
+    let mut k = Kinematics::default();
+    chain::read_chain_into(chain, &mut k)?;
     cell::admit(
-        words, numbers, k, chord, axis, poses, joints, out_poses, out_joints,
+        words, numbers, &k, chord, axis, poses, joints, out_poses, out_joints,
     )
 }
 

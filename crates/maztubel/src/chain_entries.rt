@@ -5,7 +5,7 @@ ghost use Rattle.maztubel.specs.Lent as Lent;
 ghost use Rattle.maztubel.specs.ChainEntries as S;
 
 use crate::lent::{hand_back, put_vector};
-use chain::{ToolPose, demand};
+use chain::{Kinematics, ToolPose, demand};
 use refusal::{Cause, Refusal};
 
 pub fn maztubel_check_chain(chain: &[u8], at: &mut u64, letter: &mut u8) -> u32
@@ -40,9 +40,10 @@ pub fn maztubel_forward(
 fn check_chain(bytes: &[u8]) -> Result<(), Refusal>
     ensures { result ≡ S.check_chain bytes.now }
 {
-    let k = chain::read_chain(bytes)?;
-    chain::chain_check(k)?;
-    chain::chain_sizes(k)
+    let mut k = Kinematics::default();
+    chain::read_chain_into(bytes, &mut k)?;
+    chain::chain_check(&k)?;
+    chain::chain_sizes(&k)
 }
 
 #[tactic(auto, unfolding(crate::specs::ChainEntries::forward_of, crate::specs::Lent::joints_in, turn::specs::Items::joints_in))]

@@ -11,7 +11,7 @@ ghost use Rattle.maztubel.specs.DivideEntries as S;
 
 use crate::lent::hand_back;
 use crate::path_entries::{start_good, start_in};
-use chain::demand;
+use chain::{Kinematics, demand};
 use divide::DivisionError;
 use middle::Tolerances;
 use refusal::{Cause, Refusal};
@@ -161,8 +161,9 @@ pub fn subdivide_of(
 {
     let whole = divide::four_whole(poses.len(), joints.len(), out_poses.len(), out_joints.len());
     demand(whole, Cause::LengthsDiffer, 0)?;
-    let k = chain::read_chain(chain)?;
-    divide::subdivide_path(k, tol, poses, joints, out_poses, out_joints)
+    let mut k = Kinematics::default();
+    chain::read_chain_into(chain, &mut k)?;
+    divide::subdivide_path(&k, tol, poses, joints, out_poses, out_joints)
 }
 
 // The records are whole, and the start is five numbers or none. The two rooms by themselves, as C lends the outputs: a
@@ -190,6 +191,7 @@ fn both_of(
 {
     let whole = both_lengths(poses.len(), start.len(), out_poses.len(), out_joints.len());
     demand(whole, Cause::LengthsDiffer, 0)?;
-    let k = chain::read_chain(chain)?;
-    divide::solve_and_divide(k, poses, start_in(start), cone, tol, out_poses, out_joints)
+    let mut k = Kinematics::default();
+    chain::read_chain_into(chain, &mut k)?;
+    divide::solve_and_divide(&k, poses, start_in(start), cone, tol, out_poses, out_joints)
 }

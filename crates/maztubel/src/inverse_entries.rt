@@ -3,10 +3,9 @@
 ghost use Rattle.std.specs.Prelude.{◌≤◌, ◌≡◌, length};
 ghost use Rattle.maztubel.specs.Lent as Lent;
 ghost use Rattle.maztubel.specs.InverseEntries as S;
-ghost use Rattle.maztubel.specs.Steps.{ChoiceAsked};
 
 use crate::lent::hand_back;
-use chain::{Joints, Kinematics, ToolPose, demand};
+use chain::{Joints, Kinematics, demand};
 use inverse::{Angles, Choice, Solutions};
 use refusal::{Cause, Refusal};
 
@@ -58,7 +57,7 @@ pub fn maztubel_choose(
 
 // Two numbers as angles.
 #[tactic(auto, unfolding(crate::specs::InverseEntries::angles_in))]
-fn angles_in(hint: &[f64]) -> Angles
+pub fn angles_in(hint: &[f64]) -> Angles
     requires { length hint.now ≡ 2 }
     ensures { result ≡ S.angles_in hint.now }
 {
@@ -70,7 +69,7 @@ fn angles_in(hint: &[f64]) -> Angles
 // C says the choice by a number. Every number from 2 on counts as the third here: what is above 2 is refused before, in
 // one check with the lengths, as the definition has it. An Option would take that check apart and refuse in two places.
 #[tactic(auto, unfolding(crate::specs::InverseEntries::choice_of))]
-fn choice_of(choice: u32, hint: Angles) -> Choice
+pub fn choice_of(choice: u32, hint: Angles) -> Choice
     ensures { result ≡ S.choice_of choice hint }
 {
     match choice {
@@ -97,10 +96,19 @@ fn inverse_of(
         Cause::LengthsDiffer,
         0,
     )?;
-    let k = chain::read_chain(chain)?;
-    inverse::inverse(k, path::pose_in(pose, 0), tool_length, angles_in(hint))
+    let mut k = Kinematics::default();
+    chain::read_chain_into(chain, &mut k)?;
+    inverse::inverse(&k, path::pose_in(pose, 0), tool_length, angles_in(hint))
 }
 
+// The lengths and the choice of `choose` and of `choose_tooth`.
+pub fn choice_lengths(pose: usize, hint: usize, room: usize, choice: u32) -> bool
+    ensures { result ≡ S.choice_lengths pose hint room choice }
+{
+    pose == 6 && hint == 2 && room == 5 && choice < 3
+}
+
+#[tactic(auto, unfolding(crate::specs::InverseEntries::choose_of, crate::specs::InverseEntries::pose_in, path::specs::Solving::pose_in))]
 fn choose_of(
     chain: &[u8],
     pose: &[f64],
@@ -111,34 +119,15 @@ fn choose_of(
 ) -> Result<Joints, Refusal>
     ensures { result ≡ S.choose_of chain.now pose.now tool_length choice hint.now room }
 {
-    let choose = |k, pose, choice| inverse::choose(k, pose, tool_length, choice);
-    chosen(choose, chain, pose, choice, hint, room)
-}
-
-// What `choose` finds for the chain, the pose and the choice that are lent, or the first refusal.
-#[tactic(auto, unfolding(crate::specs::InverseEntries::pose_in, path::specs::Solving::pose_in))]
-pub fn chosen<F: FnOnce(Kinematics, ToolPose, Choice) -> Result<Joints, Refusal>>(
-    choose: F,
-    chain: &[u8],
-    pose: &[f64],
-    choice: u32,
-    hint: &[f64],
-    room: usize,
-) -> Result<Joints, Refusal>
-    requires { F.IsAlwaysCallable choose }
-    ensures { ChoiceAsked (F.post choose) chain.now pose.now choice hint.now room result }
-{
     demand(
-        pose.len() == 6 && hint.len() == 2 && room == 5 && choice < 3,
+        choice_lengths(pose.len(), hint.len(), room, choice),
         Cause::LengthsDiffer,
         0,
     )?;
-    let k = chain::read_chain(chain)?;
-    choose(
-        k,
-        path::pose_in(pose, 0),
-        choice_of(choice, angles_in(hint)),
-    )
+    let mut k = Kinematics::default();
+    chain::read_chain_into(chain, &mut k)?;
+    let choice = choice_of(choice, angles_in(hint));
+    inverse::choose(&k, path::pose_in(pose, 0), tool_length, choice)
 }
 
 // ---- what is lent to be written

@@ -8,7 +8,7 @@ ghost use Rattle.maztubel.specs.Lent as Lent;
 ghost use Rattle.maztubel.specs.JobEntries as S;
 
 use crate::lent::{hand_back, hand_place};
-use chain::demand;
+use chain::{Kinematics, demand};
 use job::Job;
 use refusal::{Cause, Refusal};
 
@@ -116,8 +116,9 @@ fn cable_of(chain: &[u8], joints: &[f64], rotary: u64) -> Result<u64, Refusal>
     ensures { result ≡ S.cable_of chain.now joints.now rotary }
 {
     demand(joints.len() % 5 == 0, Cause::LengthsDiffer, 0)?;
-    let k = chain::read_chain(chain)?;
-    job::cable_number(k, joints, rotary as usize)
+    let mut k = Kinematics::default();
+    chain::read_chain_into(chain, &mut k)?;
+    job::cable_number(&k, joints, rotary as usize)
 }
 
 // The three writers of answers, this one, `put_asked` and `put_meeting`, stay apart: each takes another answer apart

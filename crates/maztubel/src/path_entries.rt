@@ -7,7 +7,7 @@ ghost use Rattle.maztubel.specs.Lent as Lent;
 ghost use Rattle.maztubel.specs.PathEntries as S;
 
 use crate::lent::hand_back;
-use chain::{Joints, demand};
+use chain::{Joints, Kinematics, demand};
 use refusal::{Cause, Refusal};
 
 #[tactic(auto, using(crate::proofs::Promised::promised))]
@@ -68,6 +68,7 @@ fn solve_path_of(
         Cause::LengthsDiffer,
         0,
     )?;
-    let k = chain::read_chain(chain)?;
-    path::solve_path(k, poses, start_in(start), cone, joints)
+    let mut k = Kinematics::default();
+    chain::read_chain_into(chain, &mut k)?;
+    path::solve_path(&k, poses, start_in(start), cone, joints)
 }

@@ -8,7 +8,7 @@ ghost use Rattle.quote.specs.Quotation.{scratch_left};
 ghost use Rattle.maztubel.specs.QuoteEntries as S;
 
 use crate::lent::hand_back;
-use chain::demand;
+use chain::{Kinematics, demand};
 use middle::Tolerances;
 use quote::{Figures, QuoteError};
 use refusal::{Cause, Refusal};
@@ -110,8 +110,9 @@ fn quote_of(
         scratch_tips.len(),
     );
     demand(whole, Cause::LengthsDiffer, 0)?;
-    let k = chain::read_chain(chain)?;
-    quote::quote_path(k, tol, poses, joints, scratch_joints, scratch_tips)
+    let mut k = Kinematics::default();
+    chain::read_chain_into(chain, &mut k)?;
+    quote::quote_path(&k, tol, poses, joints, scratch_joints, scratch_tips)
 }
 
 fn refusal_in(answer: Result<Figures, QuoteError>) -> Result<(), Refusal>

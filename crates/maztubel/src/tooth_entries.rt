@@ -4,9 +4,9 @@
 ghost use Rattle.std.specs.Prelude.{◌≡◌, length};
 ghost use Rattle.maztubel.specs.ToothEntries as S;
 
-use crate::inverse_entries::{chosen, put_chosen};
+use crate::inverse_entries::{angles_in, choice_lengths, choice_of, put_chosen};
 use crate::lent::hand_back;
-use chain::{Joints, demand};
+use chain::{Joints, Kinematics, demand};
 use refusal::{Cause, Refusal};
 
 pub fn maztubel_choose_tooth(
@@ -29,7 +29,7 @@ pub fn maztubel_choose_tooth(
     hand_back(&answer, at, letter)
 }
 
-#[tactic(auto, unfolding(crate::specs::ToothEntries::tooth_of))]
+#[tactic(auto, unfolding(crate::specs::ToothEntries::tooth_of, crate::specs::InverseEntries::pose_in, path::specs::Solving::pose_in))]
 fn tooth_of(
     chain: &[u8],
     pose: &[f64],
@@ -42,6 +42,13 @@ fn tooth_of(
     ensures { result ≡ S.tooth_of chain.now pose.now tool_length choice hint.now tolerance room }
 {
     demand(divide::tolerance_good(tolerance), Cause::Tolerance, 0)?;
-    let choose = |k, pose, choice| hirth::choose_tooth(k, pose, tool_length, choice, tolerance);
-    chosen(choose, chain, pose, choice, hint, room)
+    demand(
+        choice_lengths(pose.len(), hint.len(), room, choice),
+        Cause::LengthsDiffer,
+        0,
+    )?;
+    let mut k = Kinematics::default();
+    chain::read_chain_into(chain, &mut k)?;
+    let choice = choice_of(choice, angles_in(hint));
+    hirth::choose_tooth(&k, path::pose_in(pose, 0), tool_length, choice, tolerance)
 }

@@ -8,7 +8,7 @@ ghost use Rattle.maztubel.specs.Lent as Lent;
 ghost use Rattle.maztubel.specs.WriteEntries as S;
 
 use crate::lent::hand_back;
-use chain::demand;
+use chain::{Kinematics, demand};
 use middle::Tolerances;
 use refusal::{Cause, Refusal};
 
@@ -52,8 +52,9 @@ fn write_of(
     ensures promise { S.WritePromise (read_chain chain.now) poses.now cone tol (ListN.length job.old) }
 {
     demand(poses.len() % 6 == 0, Cause::LengthsDiffer, 0)?;
-    let k = chain::read_chain(chain)?;
-    writer::write_job(k, poses, cone, tol, job)
+    let mut k = Kinematics::default();
+    chain::read_chain_into(chain, &mut k)?;
+    writer::write_job(&k, poses, cone, tol, job)
 }
 
 fn length_in(written: Result<usize, Refusal>) -> u64

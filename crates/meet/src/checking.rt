@@ -56,7 +56,7 @@ fn solids_within(bytes: &[u8]) -> bool
 fn meeting_sizes(model: &MachineModel, joints: &[f64]) -> bool
     ensures { result ≡ S.meeting_sizes model.now.chain model.now.bytes.now joints.now }
 {
-    chain::chain_within(model.chain) && extremes::all_within(joints) && solids_within(model.bytes)
+    chain::chain_within(&model.chain) && extremes::all_within(joints) && solids_within(model.bytes)
 }
 
 #[tactic(auto, unfolding(crate::specs::Checking::meeting_check))]

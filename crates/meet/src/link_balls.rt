@@ -59,7 +59,7 @@ fn link_ball(model: &MachineModel, link: Link) -> Ball
     requires { link.kind + 65 ≤ length model.now.bytes.now }
     ensures { result ≡ T.link_ball model.now.chain model.now.bytes.now link }
 {
-    let kind = model::carrier_kind(model.chain, link.carrier_in(model.bytes));
+    let kind = model::carrier_kind(&model.chain, link.carrier_in(model.bytes));
     ball_of(kind, model::solid_at(model.bytes, link.kind))
 }
 

@@ -49,7 +49,7 @@ pub fn links_meet(model: &MachineModel, joints: &[f64]) -> Result<Option<Meeting
     ensures first { let m = model.now in First.Answered m.name.now m.chain m.bytes.now joints.now result }
 {
     meeting_check(model, joints)?;
-    let p = prepare(model.chain);
+    let p = prepare(&model.chain);
     let balls = balls_in(model);
     Ok(along(p, &balls, joints))
 }

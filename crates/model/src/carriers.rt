@@ -6,8 +6,8 @@ use crate::LinkKind;
 use chain::Kinematics;
 
 #[tactic(auto, unfolding(crate::specs::Carrier::rotary_named))]
-fn rotary_named(k: Kinematics, letter: u8) -> LinkKind
-    ensures { result ≡ S.rotary_named k letter }
+fn rotary_named(k: &Kinematics, letter: u8) -> LinkKind
+    ensures { result ≡ S.rotary_named k.now letter }
 {
     if k.first.letter == letter {
         return LinkKind::Rotary(0);
@@ -21,8 +21,8 @@ fn rotary_named(k: Kinematics, letter: u8) -> LinkKind
 // The bytes base, table or head, or one letter that the chain has. The letters of a checked chain are capitals. No
 // `match` with the texts in its arms: tried, and the last arm is reached in 15 ways, where the last `else` is in two,
 // each a goal of its own. The search proves none of the 13 that it was tried on.
-pub fn carrier_kind(k: Kinematics, carrier: &[u8]) -> LinkKind
-    ensures { result ≡ S.carrier_kind k carrier.now }
+pub fn carrier_kind(k: &Kinematics, carrier: &[u8]) -> LinkKind
+    ensures { result ≡ S.carrier_kind k.now carrier.now }
 {
     if carrier == b"base".as_slice() {
         LinkKind::Base

@@ -118,8 +118,8 @@ pub fn frame_of(p: Prepared, turns: Turns, xyz: Vec3, kind: LinkKind) -> Rigid
 }
 
 #[tactic(auto, unfolding(crate::specs::Frame::frame_sizes))]
-fn frame_sizes(k: Kinematics, j: Joints) -> bool
-    ensures { result ≡ S.frame_sizes k j }
+fn frame_sizes(k: &Kinematics, j: Joints) -> bool
+    ensures { result ≡ S.frame_sizes k.now j }
 {
     joints_within(j) && chain_within(k)
 }
@@ -132,7 +132,7 @@ impl MachineModel<'_> {
         self.full_check()?;
         demand(joints_finite(j), Cause::NotFinite, 0)?;
         demand(known(kind), Cause::CarrierUnknown, 0)?;
-        demand(frame_sizes(self.chain, j), Cause::TooLarge, 0)
+        demand(frame_sizes(&self.chain, j), Cause::TooLarge, 0)
     }
 
     // What `frame` makes of the chain turned to the joints and of what the carrier bytes name, or the first refusal.
@@ -145,9 +145,9 @@ impl MachineModel<'_> {
         requires { F.IsAlwaysCallable frame }
         ensures { let m = self.now in (f : Prepared → Turns → LinkKind → Rigid) → ((p : Prepared) (t : Turns) (kind : LinkKind) (r : Rigid) → F.post frame p t kind r → r ≡ f p t kind) → result ≡ S.placed_unless (S.frame_check m.name.now m.chain m.bytes.now j (carrier_kind m.chain carrier.now)) (f (prepared m.chain) (S.turns_forth j.a0 j.a1) (carrier_kind m.chain carrier.now)) }
     {
-        let kind = carrier_kind(self.chain, carrier);
+        let kind = carrier_kind(&self.chain, carrier);
         self.frame_check(j, kind)?;
-        let p = prepare(self.chain);
+        let p = prepare(&self.chain);
         let turns = turns_forth(j.a0, j.a1);
         Ok(frame(p, turns, kind))
     }

@@ -43,7 +43,7 @@ impl MachineModel<'_> {
         let bytes = self.bytes;
         name_check(link.name_in(bytes))?;
         demand(!named_before(bytes, link), Cause::LinkNameTwice, index)?;
-        let kind = carrier_kind(self.chain, link.carrier_in(bytes));
+        let kind = carrier_kind(&self.chain, link.carrier_in(bytes));
         demand(known(kind), Cause::CarrierUnknown, index)?;
         demand(good_solid_at(bytes, link), Cause::SolidBad, index)
     }
@@ -73,7 +73,7 @@ impl MachineModel<'_> {
     {
         read_model(self.bytes)?;
         name_check(self.name)?;
-        chain_check(self.chain)?;
+        chain_check(&self.chain)?;
         self.links_check()
     }
 
@@ -83,6 +83,6 @@ impl MachineModel<'_> {
         ensures { result ≡ S.check_model self.now.name.now self.now.chain self.now.bytes.now }
     {
         self.full_check()?;
-        chain_sizes(self.chain)
+        chain_sizes(&self.chain)
     }
 }

@@ -26,7 +26,8 @@ use Rattle.geometry.specs.Vector.{cross, norm, plus}
 use Rattle.geometry.specs.Direction.{all_finite, unit_direction, along}
 use Rattle.geometry.specs.Slerp.{half_turn_degrees}
 use Rattle.geometry.proofs.Bounded.{SmallVec, vec_raise}
-use Rattle.geometry.proofs.FitVectors.{FitVec, unit_fits, unit_or_fits}
+use Rattle.geometry.specs.Doubles.{FitVec}
+use Rattle.geometry.proofs.FitVectors.{unit_fits, unit_or_fits}
 use Rattle.geometry.proofs.AngleBetween.{plain_angle, angle_between}
 use Rattle.geometry.proofs.UnitSize.{unit_small}
 use Rattle.chain.specs.Checked.{Checked}

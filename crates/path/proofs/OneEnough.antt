@@ -3,23 +3,17 @@
 use mathlib.Core.Path.{◌≡◌, refl, ap, ◌∙◌}
 use mathlib.Core.Bool.{Bool, true, false, cond, ◌&&◌, false≢true, and-eq-true_iff}
 use mathlib.Core.Logic.{◌⊎◌, inl, inr}
-use mathlib.Core.List.{List}
-use mir.Val.{Val}
-use denote.Laws.{Is}
-use borrow.Author.Rules.{rules}
 use Rattle.std.specs.Prelude.{None, Ok, Option, Some}
+use Rattle.std.specs.Option.{ForSome}
 use Rattle.float.specs.Helpers.{nought}
 use Rattle.float.specs.TotalOrder.{before}
 use Rattle.geometry.specs.declared.Vec3.{Vec3}
 use Rattle.geometry.proofs.Bounded.{SmallVec}
-use Rattle.geometry.proofs.FitVectors.{FitVec}
+use Rattle.geometry.specs.Doubles.{FitVec}
+use Rattle.chain.specs.Doubles.{SpinFits, PreparedFits}
 use Rattle.chain.specs.declared.Joints.{Joints}
 use Rattle.chain.specs.declared.Prepared.{Prepared}
 use Rattle.chain.specs.declared.Spin.{Spin}
-use Rattle.geometry.specs.contracts.Vec3 as VectorRow
-use Rattle.std.specs.contracts.option.Option as OptionRow
-use Rattle.chain.specs.contracts.Spin as SpinRow
-use Rattle.chain.specs.contracts.Prepared as PreparedRow
 use Rattle.chain.specs.Check.{within, all_within, longest}
 use Rattle.chain.specs.Forward.{of_second}
 use Rattle.inverse.specs.Wraps.{same_angles}
@@ -33,30 +27,6 @@ use Rattle.path.specs.declared.Bounds.{Bounds}
 use Rattle.path.specs.declared.Setup.{Setup}
 use Rattle.path.proofs.Positions.{SmallOf, SmallSecond, SmallChain, within_small, candidate_finite}
 
--- ---- the numbers are doubles, as every value that code has
-abbrev pub FitSpin : Spin → Type 0
-FitSpin s = FitVec s.axis × FitVec s.pivot
-
-abbrev pub FitSecond : Option Spin → Type 0
-FitSecond None = Unit {0}
-FitSecond (Some s) = FitSpin s
-
-abbrev pub FitChain : Prepared → Type 0
-FitChain p = FitSpin p.first × FitSecond p.second × FitVec p.spindle
-
-vector_fits : (v : Vec3) (vs : List Val) → Is VectorRow.the_row v vs → FitVec v
-vector_fits v vs g = (search (rules, g), search (rules, g), search (rules, g))
-
-spin_fits : (s : Spin) (vs : List Val) → Is SpinRow.the_row s vs → FitSpin s
-spin_fits s vs g = (vector_fits s.axis _ g.1.1.1.0, vector_fits s.pivot _ g.1.1.1.1.0)
-
-second_fits : (o : Option Spin) (vs : List Val) → Is (OptionRow.the_row SpinRow.the_row) o vs → FitSecond o
-second_fits None vs g = tt
-second_fits (Some s) vs g = ((search (rules, g), search (rules, g), search (rules, g)), (search (rules, g), search (rules, g), search (rules, g)))
-
-pub prepared_fits : (p : Prepared) (vs : List Val) → Is PreparedRow.the_row p vs → FitChain p
-prepared_fits p vs g = (spin_fits p.first _ g.1.1.0, second_fits p.second _ g.1.1.1.0, vector_fits p.spindle _ g.1.1.1.1.0)
-
 vec_small : (v : Vec3) → FitVec v → all_within v longest ≡ true → SmallVec 17 v
 unfolding all_within
 vec_small v F h =
@@ -65,14 +35,14 @@ vec_small v F h =
     (within_small v.x F.0 xy.0, within_small v.y F.1 xy.1, within_small v.z F.2 xyz.1)
 
 -- ---- what is bounded is small
-spin_small : (s : Spin) → FitSpin s → bounded_spin s ≡ true → SmallOf s
+spin_small : (s : Spin) → SpinFits s → bounded_spin s ≡ true → SmallOf s
 spin_small s F h = let w = (and-eq-true_iff (all_within s.axis longest) (all_within s.pivot longest)).0 h in (vec_small s.axis F.0 w.0, vec_small s.pivot F.1 w.1)
 
-second_small : (o : Option Spin) → FitSecond o → of_second o true bounded_spin ≡ true → SmallSecond o
-second_small (Some s) F h = spin_small s F h
+second_small : (o : Option Spin) → ForSome o SpinFits → of_second o true bounded_spin ≡ true → SmallSecond o
+second_small (Some s) F h = spin_small s (F s refl) h
 second_small None F h = tt
 
-chain_small : (p : Prepared) → FitChain p → bounded p ≡ true → SmallChain p
+chain_small : (p : Prepared) → PreparedFits p → bounded p ≡ true → SmallChain p
 unfolding bounded
 chain_small p F h =
     let first = bounded_spin p.first in
@@ -197,6 +167,6 @@ of_small s target tip previous (Some one) (Some two) u P A h = pair_enough s tar
 of_small s target tip previous (Some one) None u P A h = absurd (nothing_kept h)
 of_small s target tip previous None two u P A h = absurd (nothing_kept h)
 
-pub one_enough : (s : Setup) (target tip : Vec3) (previous : Angles) (one two : Option Angles) (u : Joints) → FitChain s.chain → bounded s.chain ≡ true → FitVec tip → all_within tip longest ≡ true
+pub one_enough : (s : Setup) (target tip : Vec3) (previous : Angles) (one two : Option Angles) (u : Joints) → PreparedFits s.chain → bounded s.chain ≡ true → FitVec tip → all_within tip longest ≡ true
     → closest_alone s target tip previous one two ≡ Some u → of_raw s target tip previous one two ≡ Ok u
 one_enough s target tip previous one two u F b G w h = of_small s target tip previous one two u (chain_small s.chain F b) (vec_small tip G w) h

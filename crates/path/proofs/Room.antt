@@ -21,6 +21,8 @@ use Rattle.chain.specs.Forward.{of_second}
 use Rattle.chain.specs.Prepared.{spin_of, second_spin, prepared}
 use Rattle.chain.proofs.NeverFallback.{within_up_to}
 use Rattle.chain.proofs.Passing.{then_passed, demand_passed, SixPassed, six_passed}
+use Rattle.chain.specs.Doubles.{ChainFits, PreparedFits}
+use Rattle.chain.proofs.Fitting.{prepared_fits}
 use Rattle.chain.proofs.UnitAxes.{FitAxes, SecondUnit, UnitChain, chain_units}
 use Rattle.inverse.proofs.AngleBounds.{PairUpTo}
 use Rattle.path.specs.Closest.{bounded_spin, bounded}
@@ -98,7 +100,11 @@ module _ (k : Kinematics) (start : Option Joints) (cone : Float) (numbers room :
   pub chain_bounded : FitAxes k → bounded (prepared k) ≡ true
   chain_bounded F = units_bounded k (chain_units k F chain_passed) sizes.0
 
--- of the set-up, what holds of the chain
+-- ---- of the set-up, what holds of the chain
 pub set_up_bounded : (k : Kinematics) (cone : Float) (s : Setup) → s ≡ set_up k cone → bounded (prepared k) ≡ true → bounded s.chain ≡ true
 unfolding set_up
 set_up_bounded k cone s e b = subst (λ (t : Setup). bounded t.chain ≡ true) (sym e) b
+
+pub set_up_fits : (k : Kinematics) (cone : Float) (s : Setup) → s ≡ set_up k cone → ChainFits k → PreparedFits s.chain
+unfolding set_up
+set_up_fits k cone s e F = subst (λ (t : Setup). PreparedFits t.chain) (sym e) (prepared_fits k F)

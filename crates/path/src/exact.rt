@@ -173,19 +173,17 @@ fn of_raw(s: &Setup, aim: &Aim, one: Option<Angles>, two: Option<Angles>) -> Res
     of_positions(s, aim, first, second)
 }
 
-// Of bounded numbers both solutions have a finite position, so that the closer one alone can be the answer. Both
-// parameters are values: by `&CheckedSetup` and `&Aim` it was tried, and the proof misses that the chain's and the
-// tip's numbers are doubles, which the law of finite positions asks (`one_enough`). A reference says only where it
-// points, and a copy taken of it (`let s = *s;`) no more.
-pub fn exact_pose(s: CheckedSetup, aim: Aim) -> Result<Joints, Refusal>
-    ensures { result ≡ S.exact_pose s.setup aim.target aim.tip aim.previous }
+// Of bounded doubles both solutions have a finite position, so that the closer one alone can be the answer. Both go by
+// reference: by value their 264 bytes would be copied for every pose.
+pub fn exact_pose(s: &CheckedSetup, aim: &Aim) -> Result<Joints, Refusal>
+    ensures { result ≡ S.exact_pose s.now.setup aim.now.target aim.now.tip aim.now.previous }
 {
     let raw = inverse::orientation_angles(s.setup.chain, aim.target, aim.previous);
     let one = raw.first;
     let two = raw.second;
-    let closest = closest_alone(&s.setup, &aim, one, two);
+    let closest = closest_alone(&s.setup, aim, one, two);
     match closest {
         Some(j) => Ok(j),
-        None => of_raw(&s.setup, &aim, one, two),
+        None => of_raw(&s.setup, aim, one, two),
     }
 }

@@ -5,7 +5,9 @@
 #![tactic(auto)]
 
 ghost use Rattle.std.specs.Prelude.{◌≡◌, true};
+ghost use Rattle.geometry.specs.Doubles.{FitVec};
 ghost use Rattle.chain.specs.Check.{all_within, longest};
+ghost use Rattle.chain.specs.Doubles.{PreparedFits};
 ghost use Rattle.path.specs.Closest.{bounded};
 
 mod closest;
@@ -58,11 +60,13 @@ pub struct Setup {
     pub cone: f64,
 }
 
-// One whose chain has passed its check. The fact is no field of `Setup`: `set_up` makes one of every chain.
+// One whose chain has passed its check, and is of doubles, which a reference to it says by this alone. The facts are no
+// fields of `Setup`: `set_up` makes one of every chain.
 #[derive(Clone, Copy)]
 pub struct CheckedSetup {
     pub setup: Setup,
     ghost bounded: { bounded setup.chain ≡ true },
+    ghost fits: { PreparedFits setup.chain },
 }
 
 // What is asked of one pose: the unit direction of the tool and the place of its tip, from the angles before. It goes
@@ -74,4 +78,5 @@ pub struct Aim {
     pub tip: Vec3,
     pub previous: Angles,
     ghost within: { all_within tip longest ≡ true },
+    ghost fits: { FitVec tip },
 }

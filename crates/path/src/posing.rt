@@ -26,8 +26,8 @@ impl From<RotaryJoint> for Bound {
 }
 
 #[tactic(auto, unfolding(crate::specs::Posing::bounds_of))]
-pub fn bounds_of(k: Kinematics) -> Bounds
-    ensures { result ≡ S.bounds_of k }
+pub fn bounds_of(k: &Kinematics) -> Bounds
+    ensures { result ≡ S.bounds_of k.now }
 {
     let first = Bound::from(k.first);
     let second = k.second_rotary().map(Bound::from);
@@ -36,8 +36,8 @@ pub fn bounds_of(k: Kinematics) -> Bounds
 
 // Of a checked chain.
 #[tactic(auto, unfolding(crate::specs::Posing::set_up))]
-pub fn set_up(k: Kinematics, cone: f64) -> Setup
-    ensures { result ≡ S.set_up k cone }
+pub fn set_up(k: &Kinematics, cone: f64) -> Setup
+    ensures { result ≡ S.set_up k.now cone }
 {
     let chain = chain::prepare(k);
     let bounds = bounds_of(k);
@@ -79,7 +79,7 @@ fn locked_or_exact(s: &CheckedSetup, f: SingularFrame, aim: &Aim) -> Result<Join
     if !leaves_limits(locked) {
         return locked;
     }
-    let exact = exact_pose(*s, *aim);
+    let exact = exact_pose(s, aim);
     if succeeds(exact) {
         return exact;
     }
@@ -92,12 +92,12 @@ fn solve_one(s: &CheckedSetup, aim: &Aim) -> Result<Joints, Refusal>
     ensures { result ≡ S.solve_one s.now.setup aim.now.target aim.now.tip aim.now.previous }
 {
     let Some(f) = s.setup.frame else {
-        return exact_pose(*s, *aim);
+        return exact_pose(s, aim);
     };
     if in_singular_cone(f, s.setup.cone, aim.target) {
         return locked_or_exact(s, f, aim);
     }
-    exact_pose(*s, *aim)
+    exact_pose(s, aim)
 }
 
 // Neither angle is past 36,000 degrees.

@@ -54,8 +54,8 @@ pub fn clear_from(out: &mut [f64], from: usize)
 // Two rotaries whose unit axes have a cross product shorter than 1e-9. Such a chain can have endless solutions, and
 // which one a path takes would depend on its start.
 #[tactic(auto, unfolding(crate::specs::Solving::parallel, chain::specs::Prepared::unit_axis))]
-fn parallel(k: Kinematics) -> bool
-    ensures { result ≡ S.parallel k }
+fn parallel(k: &Kinematics) -> bool
+    ensures { result ≡ S.parallel k.now }
 {
     let Some(second) = k.second_rotary() else {
         return false;
@@ -67,8 +67,8 @@ fn parallel(k: Kinematics) -> bool
 
 // The chain check of every call that walks a path: `inverse` and `choose` serve parallel rotaries, a path does not.
 #[tactic(auto, unfolding(crate::specs::Solving::path_chain))]
-pub fn path_chain(k: Kinematics) -> Result<(), Refusal>
-    ensures { result ≡ S.path_chain k }
+pub fn path_chain(k: &Kinematics) -> Result<(), Refusal>
+    ensures { result ≡ S.path_chain k.now }
 {
     chain::chain_check(k)?;
     demand(!parallel(k), Cause::ParallelRotaries, 0)
@@ -110,8 +110,8 @@ pub fn whole_records(numbers: usize, room: usize) -> bool
 }
 
 #[tactic(auto, unfolding(crate::specs::Solving::path_sizes))]
-fn path_sizes(k: Kinematics, start: Option<Joints>, count: usize) -> bool
-    ensures { result ≡ S.path_sizes k start count }
+fn path_sizes(k: &Kinematics, start: Option<Joints>, count: usize) -> bool
+    ensures { result ≡ S.path_sizes k.now start count }
 {
     chain::chain_within(k) && start_within(start) && count <= 100000
 }
@@ -120,13 +120,13 @@ fn path_sizes(k: Kinematics, start: Option<Joints>, count: usize) -> bool
 // `solve_check(Asked { k, start, cone }, numbers, room)` would be written out at both.
 #[tactic(auto, unfolding(crate::specs::Solving::solve_check))]
 pub fn solve_check(
-    k: Kinematics,
+    k: &Kinematics,
     start: Option<Joints>,
     cone: f64,
     numbers: usize,
     room: usize,
 ) -> Result<(), Refusal>
-    ensures { result ≡ S.solve_check k start cone numbers room }
+    ensures { result ≡ S.solve_check k.now start cone numbers room }
 {
     demand(whole_records(numbers, room), Cause::LengthsDiffer, 0)?;
     demand(cone_good(cone), Cause::Cone, 0)?;
@@ -168,16 +168,17 @@ fn solve_poses(
 
 // Of a chain, a start and a cone that are checked, with space for every pose.
 pub fn solve_checked(
-    k: Kinematics,
+    k: &Kinematics,
     poses: &[f64],
     start: Option<Joints>,
     cone: f64,
     out: &mut [f64],
 ) -> Result<(), Refusal>
-    requires { (length poses.now / 6 * 5 ≤ length out.old) × (bounded (prepared k) ≡ true) }
-    ensures checked { result ≡ S.checked_in (S.solve_checked k poses.now start cone) }
-    ensures lent { out.new ≡ S.path_over (S.solve_checked k poses.now start cone) out.old }
+    requires { (length poses.now / 6 * 5 ≤ length out.old) × (bounded (prepared k.now) ≡ true) }
+    ensures checked { result ≡ S.checked_in (S.solve_checked k.now poses.now start cone) }
+    ensures lent { out.new ≡ S.path_over (S.solve_checked k.now poses.now start cone) out.old }
 {
+    chain::chain_fits(*k);
     let s = CheckedSetup {
         setup: set_up(k, cone),
     };
@@ -187,16 +188,17 @@ pub fn solve_checked(
 // The joints of every pose, or the first refusal.
 #[tactic(auto, unfolding(crate::specs::Solving::solve_path, crate::specs::Solving::path_over))]
 pub fn solve_path(
-    k: Kinematics,
+    k: &Kinematics,
     poses: &[f64],
     start: Option<Joints>,
     cone: f64,
     out: &mut [f64],
 ) -> Result<(), Refusal>
-    ensures checked { result ≡ S.checked_in (S.solve_path k poses.now start cone (length out.old)) }
-    ensures lent { out.new ≡ S.path_over (S.solve_path k poses.now start cone (length out.old)) out.old }
-    ensures served { OnPath (Served k) (S.solve_path k poses.now start cone (length out.old)) }
+    ensures checked { result ≡ S.checked_in (S.solve_path k.now poses.now start cone (length out.old)) }
+    ensures lent { out.new ≡ S.path_over (S.solve_path k.now poses.now start cone (length out.old)) out.old }
+    ensures served { OnPath (Served k.now) (S.solve_path k.now poses.now start cone (length out.old)) }
 {
+    chain::chain_fits(*k);
     solve_check(k, start, cone, poses.len(), out.len())?;
     solve_checked(k, poses, start, cone, out)
 }

@@ -58,7 +58,7 @@ fn post_job(bytes: &[u8], j: Job, room: &mut Room) -> usize
     let given = j.poses as usize;
     let said = solve(bytes, j, room);
     let numbers = 5 * path_length(given, said);
-    conclude(k, said, &room.joints[..numbers], &mut room.text)
+    conclude(&k, said, &room.joints[..numbers], &mut room.text)
 }
 
 // The path of a job, in lent joints. Its poses have room, so that copying them out of the bytes is not refused.
@@ -71,7 +71,7 @@ fn solve(bytes: &[u8], j: Job, room: &mut Room) -> Result<u64, DivisionError>
     job::job_poses(bytes, &mut room.poses)?;
     let numbers = 6 * j.poses as usize;
     divide::solve_and_divide(
-        j.chain,
+        &j.chain,
         &room.poses[..numbers],
         None,
         j.cone,
@@ -91,11 +91,11 @@ fn path_length(given: usize, said: Result<u64, DivisionError>) -> usize
 
 // No `From<DivisionError>`: both types are of other crates, and what a job tells of a stop is this program's choice.
 fn ended_by(
-    k: Kinematics,
+    k: &Kinematics,
     said: Result<u64, DivisionError>,
     path: &[f64],
 ) -> Result<Figures, JobError>
-    ensures { result ≡ S.ended_by k said path.now }
+    ensures { result ≡ S.ended_by k.now said path.now }
 {
     match said {
         Ok(n) => wound(k, n, path),
@@ -107,8 +107,8 @@ fn ended_by(
 
 // The cable numbers of both rotaries on a path.
 #[tactic(auto, unfolding(crate::specs::Posting::wound))]
-fn wound(k: Kinematics, inserted: u64, path: &[f64]) -> Result<Figures, JobError>
-    ensures { result ≡ S.wound k inserted path.now }
+fn wound(k: &Kinematics, inserted: u64, path: &[f64]) -> Result<Figures, JobError>
+    ensures { result ≡ S.wound k.now inserted path.now }
 {
     let first = job::cable_number(k, path, 0)?;
     let second = job::cable_number(k, path, 1)?;
@@ -120,10 +120,15 @@ fn wound(k: Kinematics, inserted: u64, path: &[f64]) -> Result<Figures, JobError
 }
 
 // ---- the text
-fn conclude(k: Kinematics, said: Result<u64, DivisionError>, path: &[f64], text: &mut [u8]) -> usize
+fn conclude(
+    k: &Kinematics,
+    said: Result<u64, DivisionError>,
+    path: &[f64],
+    text: &mut [u8],
+) -> usize
     requires { (length path.now / 5 ≤ 700) × (65536 ≤ length text.old) }
-    ensures end { result ≡ length (Steps.conclusion k said path.now) }
-    ensures text { take result text.new ≡ Steps.conclusion k said path.now }
+    ensures end { result ≡ length (Steps.conclusion k.now said path.now) }
+    ensures text { take result text.new ≡ Steps.conclusion k.now said path.now }
 {
     let ended = ended_by(k, said, path);
     tell(ended, path, text)

@@ -19,7 +19,7 @@ pub extern "C" fn probe_forwards(chain: &[u8], joints: &[f64], tool_length: f64)
     let Ok(k) = chain::read_chain(chain) else {
         return 0.0;
     };
-    sums(chain::prepare(k), joints, tool_length)
+    sums(chain::prepare(&k), joints, tool_length)
 }
 
 // Over chunks, of which `sums_fold` says that they are the records.

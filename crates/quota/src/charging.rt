@@ -49,23 +49,23 @@ pub fn settle(
 pub fn divide_for(
     balances: &mut [u64],
     shop: u64,
-    k: Kinematics,
+    k: &Kinematics,
     tol: Tolerances,
     given: &[f64],
     solved: &[f64],
     poses: &mut [f64],
     joints: &mut [f64],
 ) -> Result<u64, DivisionError>
-    ensures answer { let plain = subdivide_path k tol given.now solved.now (length poses.old) (length joints.old) in
+    ensures answer { let plain = subdivide_path k.now tol given.now solved.now (length poses.old) (length joints.old) in
         result ≡ division_in (S.charged_division balances.old shop plain) }
-    ensures poses { let plain = subdivide_path k tol given.now solved.now (length poses.old) (length joints.old) in
+    ensures poses { let plain = subdivide_path k.now tol given.now solved.now (length poses.old) (length joints.old) in
         poses.new ≡ poses_left (S.charged_division balances.old shop plain) poses.old }
-    ensures joints { let plain = subdivide_path k tol given.now solved.now (length poses.old) (length joints.old) in
+    ensures joints { let plain = subdivide_path k.now tol given.now solved.now (length poses.old) (length joints.old) in
         joints.new ≡ joints_left (S.charged_division balances.old shop plain) joints.old }
-    ensures balances { let plain = subdivide_path k tol given.now solved.now (length poses.old) (length joints.old) in
+    ensures balances { let plain = subdivide_path k.now tol given.now solved.now (length poses.old) (length joints.old) in
         balances.new ≡ after balances.old (Divide shop plain) }
-    ensures price { let plain = subdivide_path k tol given.now solved.now (length poses.old) (length joints.old) in
-        Charged balances.old shop plain k tol given.now solved.now (length poses.old) (length joints.old) result poses.new joints.new }
+    ensures price { let plain = subdivide_path k.now tol given.now solved.now (length poses.old) (length joints.old) in
+        Charged balances.old shop plain k.now tol given.now solved.now (length poses.old) (length joints.old) result poses.new joints.new }
 {
     shop_check(balances.len(), shop)?;
     let said = divide::subdivide_path(k, tol, given, solved, poses, joints);

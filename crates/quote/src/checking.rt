@@ -16,14 +16,14 @@ pub fn scratch_whole(room_joints: usize, room_tips: usize) -> bool
 // Chain and tolerances apart, and the rooms as numbers, as `divide::division_check` takes them.
 #[tactic(auto, unfolding(crate::specs::Quotation::quote_check))]
 pub fn quote_check(
-    k: Kinematics,
+    k: &Kinematics,
     tol: Tolerances,
     given: &[f64],
     solved: &[f64],
     room_joints: usize,
     room_tips: usize,
 ) -> Result<(), Refusal>
-    ensures { result ≡ S.quote_check k tol given.now solved.now room_joints room_tips }
+    ensures { result ≡ S.quote_check k.now tol given.now solved.now room_joints room_tips }
 {
     demand(
         scratch_whole(room_joints, room_tips),

@@ -14,21 +14,21 @@ use turn::{GivenPath, Stop};
 
 // A path that the checks let pass.
 #[derive(Clone, Copy)]
-struct CheckedPath<'a> {
-    k: Kinematics,
+struct CheckedPath<'k, 'a> {
+    k: &'k Kinematics,
     tol: Tolerances,
     given: GivenPath<'a>,
     ghost few: { given.count ≤ 100000 },
 }
 
-impl CheckedPath<'_> {
+impl CheckedPath<'_, '_> {
     // What both scratches hold afterwards is not said.
     fn quotation(
         &self,
         stack: &mut [f64; NUMBERS],
         tips: &mut [f64; TIPS],
     ) -> Result<Figures, QuoteError>
-        ensures { let g = self.now.given in result ≡ S.quotation (prepared self.now.k) self.now.tol (given g.poses.now g.joints.now) }
+        ensures { let g = self.now.given in result ≡ S.quotation (prepared self.now.k.now) self.now.tol (given g.poses.now g.joints.now) }
     {
         if self.given.count == 0 {
             return Ok(Figures::default());
@@ -44,7 +44,7 @@ impl CheckedPath<'_> {
 
     // Where there is scratch for all that may wait.
     fn within(&self, stack: &mut [f64], tips: &mut [f64]) -> Result<Figures, QuoteError>
-        ensures { let g = self.now.given in result ≡ S.quote_checked self.now.k self.now.tol g.poses.now g.joints.now (length stack.old) (length tips.old) }
+        ensures { let g = self.now.given in result ≡ S.quote_checked self.now.k.now self.now.tol g.poses.now g.joints.now (length stack.old) (length tips.old) }
     {
         let waiting = stack.first_chunk_mut().ok_or(Stop::NoSpace(0))?;
         let poses = tips.first_chunk_mut().ok_or(Stop::NoSpace(0))?;
@@ -57,7 +57,7 @@ impl CheckedPath<'_> {
         scratch_joints: &mut [f64],
         scratch_tips: &mut [f64],
     ) -> Result<Figures, QuoteError>
-        ensures answer { let g = self.now.given in result ≡ S.quote_checked self.now.k self.now.tol g.poses.now g.joints.now (length scratch_joints.old) (length scratch_tips.old) }
+        ensures answer { let g = self.now.given in result ≡ S.quote_checked self.now.k.now self.now.tol g.poses.now g.joints.now (length scratch_joints.old) (length scratch_tips.old) }
         ensures joints { scratch_joints.new ≡ S.cleared scratch_joints.old }
         ensures tips { scratch_tips.new ≡ S.cleared scratch_tips.old }
     {
@@ -71,17 +71,17 @@ impl CheckedPath<'_> {
 // The figures of a division, or its refusal. Scratch for 10,000 joint sets and tips is lent: the checks' refusals keep
 // it, and every other answer leaves +0.0 in all of it.
 pub fn quote_path(
-    k: Kinematics,
+    k: &Kinematics,
     tol: Tolerances,
     poses: &[f64],
     joints: &[f64],
     scratch_joints: &mut [f64],
     scratch_tips: &mut [f64],
 ) -> Result<Figures, QuoteError>
-    ensures answer { result ≡ S.quote_path k tol poses.now joints.now (length scratch_joints.old) (length scratch_tips.old) }
-    ensures joints { scratch_joints.new ≡ S.scratch_left (S.quote_path k tol poses.now joints.now (length scratch_joints.old) (length scratch_tips.old)) scratch_joints.old }
-    ensures tips { scratch_tips.new ≡ S.scratch_left (S.quote_path k tol poses.now joints.now (length scratch_joints.old) (length scratch_tips.old)) scratch_tips.old }
-    ensures divided { AsDivided k tol poses.now joints.now (length scratch_joints.old) (length scratch_tips.old) result }
+    ensures answer { result ≡ S.quote_path k.now tol poses.now joints.now (length scratch_joints.old) (length scratch_tips.old) }
+    ensures joints { scratch_joints.new ≡ S.scratch_left (S.quote_path k.now tol poses.now joints.now (length scratch_joints.old) (length scratch_tips.old)) scratch_joints.old }
+    ensures tips { scratch_tips.new ≡ S.scratch_left (S.quote_path k.now tol poses.now joints.now (length scratch_joints.old) (length scratch_tips.old)) scratch_tips.old }
+    ensures divided { AsDivided k.now tol poses.now joints.now (length scratch_joints.old) (length scratch_tips.old) result }
 {
     quote_check(
         k,

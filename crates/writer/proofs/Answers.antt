@@ -16,7 +16,7 @@ use Rattle.divide.specs.Checking.{FitUpTo}
 use Rattle.job.specs.Spelling.{written}
 use Rattle.writer.specs.Writing.{record_of, chain_bytes, job_bytes, job_of}
 use Rattle.writer.specs.Checking.{job_length, length_of, write_check, written_job, written_answer, ReadBack, Rewritten}
-use Rattle.writer.proofs.Fitting.{ChainFits}
+use Rattle.chain.specs.Doubles.{ChainFits}
 use Rattle.writer.proofs.Parts.{record_width}
 use Rattle.writer.proofs.Reading.{chain_length, length_of_job, read_back, poses_back}
 use Rattle.writer.proofs.Passing.{accepted}

@@ -1,4 +1,3 @@
-pub mod Fitting
 pub mod Standing
 pub mod Parts
 pub mod Reading

@@ -30,7 +30,7 @@ use Rattle.job.specs.JobBytes.{trailer, word_length, sized, places_in, chain_end
 use Rattle.job.specs.JobPoses.{numbers_at, poses_of}
 use Rattle.job.specs.declared.Places.{Places}
 use Rattle.writer.specs.Writing.{bytes_of, number_bytes, vector_bytes, carrier_byte, limits_byte, lower, upper, head_bytes, rest_bytes, rotary_bytes, rest_nought, second_nought, word_of, record_of, Width, second_bytes, chain_bytes, poses_bytes, trailer_bytes, job_bytes, plain, job_of}
-use Rattle.writer.proofs.Fitting.{TravelFits, RotaryFits, ChainFits}
+use Rattle.chain.specs.Doubles.{TravelFits, RotaryFits, ChainFits}
 use Rattle.writer.proofs.Parts.{travel_bytes, rotary_parts, record_width, trailer_parts}
 use Rattle.writer.proofs.Standing.{Stands, stands_left, stands_right, stands_whole, length_bytes, whole_read, bits_there, number_read, length_number, length_vector, vector_read, zeros_read}
 

@@ -17,7 +17,7 @@ use Rattle.chain.specs.ChainBytes.{zeros}
 use Rattle.geometry.specs.declared.Vec3.{Vec3}
 use Rattle.float.proofs.Choices.{nan_of}
 use Rattle.job.specs.Spelling.{bits_of}
-use Rattle.geometry.proofs.FitVectors.{FitVec}
+use Rattle.geometry.specs.Doubles.{FitVec}
 use Rattle.writer.specs.Writing.{bytes_of, number_bytes, vector_bytes}
 
 -- ---- a text at an offset

@@ -20,8 +20,8 @@ fn job_within(kind: RecordKind, count: u8, numbers: usize, most: usize) -> bool
 }
 
 #[tactic(auto, unfolding(crate::specs::Checking::write_sizes))]
-fn write_sizes(k: Kinematics, poses: &[f64]) -> bool
-    ensures { result ≡ S.write_sizes k poses.now }
+fn write_sizes(k: &Kinematics, poses: &[f64]) -> bool
+    ensures { result ≡ S.write_sizes k.now poses.now }
 {
     chain::chain_within(k)
         && divide::tips_within(poses)
@@ -31,13 +31,13 @@ fn write_sizes(k: Kinematics, poses: &[f64]) -> bool
 // `room` is how many bytes are lent. Numbers that passed are floats of 64 bits.
 #[tactic(auto, unfolding(crate::specs::Checking::write_check, crate::specs::Checking::in_order))]
 pub fn write_check(
-    k: Kinematics,
+    k: &Kinematics,
     poses: &[f64],
     cone: f64,
     tol: Tolerances,
     room: usize,
 ) -> Result<(), Refusal>
-    ensures checked { result ≡ S.write_check k poses.now cone tol room }
+    ensures checked { result ≡ S.write_check k.now poses.now cone tol room }
     ensures fit { result ≡ Ok tt → FitUpTo (length poses.now) poses.now }
 {
     let whole = poses.len() % 6 == 0;

@@ -19,17 +19,18 @@ use writing::put_job;
 // is written again to the same bytes. No struct of chain, poses, cone and tolerances: it would be made here for two
 // calls, and each clause and definition would take it apart again.
 pub fn write_job(
-    k: Kinematics,
+    k: &Kinematics,
     poses: &[f64],
     cone: f64,
     tol: Tolerances,
     out: &mut [u8],
 ) -> Result<usize, Refusal>
-    ensures answer { result ≡ S.written_answer k poses.now cone tol (length out.old) }
-    ensures lent { out.new ≡ S.written_job k poses.now cone tol out.old }
-    ensures read { S.ReadBack k poses.now cone tol (length out.old) }
-    ensures again { S.Rewritten k poses.now cone tol (length out.old) }
+    ensures answer { result ≡ S.written_answer k.now poses.now cone tol (length out.old) }
+    ensures lent { out.new ≡ S.written_job k.now poses.now cone tol out.old }
+    ensures read { S.ReadBack k.now poses.now cone tol (length out.old) }
+    ensures again { S.Rewritten k.now poses.now cone tol (length out.old) }
 {
+    chain::chain_fits(*k);
     write_check(k, poses, cone, tol, out.len())?;
     Ok(put_job(k, poses, cone, tol, out))
 }

@@ -15,16 +15,16 @@ fn rest_nought(rest: f64) -> bool
 }
 
 #[tactic(auto, unfolding(crate::specs::Writing::second_nought))]
-fn second_nought(k: Kinematics) -> bool
-    ensures { result ≡ S.second_nought k }
+fn second_nought(k: &Kinematics) -> bool
+    ensures { result ≡ S.second_nought k.now }
 {
     k.second_rotary().is_none_or(|j| rest_nought(j.rest))
 }
 
 // Without a rest angle where every one of the chain is +0.0.
 #[tactic(auto, unfolding(crate::specs::Writing::record_of, crate::specs::Writing::word_of, job::specs::JobBytes::word_length, job::specs::JobBytes::bytes_in))]
-pub fn kind_of(k: Kinematics) -> RecordKind
-    ensures { bytes_in result ≡ S.record_of k }
+pub fn kind_of(k: &Kinematics) -> RecordKind
+    ensures { bytes_in result ≡ S.record_of k.now }
 {
     if rest_nought(k.first.rest) && second_nought(k) {
         RecordKind::NoRest

@@ -106,9 +106,9 @@ fn put_rotary(page: &mut Page<'_>, kind: RecordKind, j: RotaryJoint)
 
 // ---- the chain
 #[tactic(auto, using(job::proofs::Written::put_none), unfolding(crate::specs::Writing::second_bytes))]
-fn put_second(page: &mut Page<'_>, kind: RecordKind, k: Kinematics)
-    requires { Fits page.old (S.second_bytes (bytes_in kind) k) }
-    ensures { Put page.old (S.second_bytes (bytes_in kind) k) page.new }
+fn put_second(page: &mut Page<'_>, kind: RecordKind, k: &Kinematics)
+    requires { Fits page.old (S.second_bytes (bytes_in kind) k.now) }
+    ensures { Put page.old (S.second_bytes (bytes_in kind) k.now) page.new }
 {
     if let Some(j) = k.second_rotary() {
         put_rotary(page, kind, j);
@@ -116,9 +116,9 @@ fn put_second(page: &mut Page<'_>, kind: RecordKind, k: Kinematics)
 }
 
 #[tactic(auto, unfolding(crate::specs::Writing::chain_bytes))]
-fn put_chain(page: &mut Page<'_>, kind: RecordKind, k: Kinematics)
-    requires { Fits page.old (S.chain_bytes (bytes_in kind) k) }
-    ensures { Put page.old (S.chain_bytes (bytes_in kind) k) page.new }
+fn put_chain(page: &mut Page<'_>, kind: RecordKind, k: &Kinematics)
+    requires { Fits page.old (S.chain_bytes (bytes_in kind) k.now) }
+    ensures { Put page.old (S.chain_bytes (bytes_in kind) k.now) page.new }
 {
     put_head(page, k.count, 0, 0);
     put_rotary(page, kind, k.first);
@@ -151,10 +151,10 @@ fn put_trailer(page: &mut Page<'_>, chain: u64, count: u64, word: u64, cone: f64
 }
 
 // Answers how many bytes the job has.
-pub fn put_job(k: Kinematics, poses: &[f64], cone: f64, tol: Tolerances, out: &mut [u8]) -> usize
-    requires { (one_or_two k.count ≡ true) × (length_of k poses.now ≤ length out.old) }
-    ensures end { result ≡ length_of k poses.now }
-    ensures lent { out.new ≡ written out.old 0 (S.job_bytes k poses.now cone tol) }
+pub fn put_job(k: &Kinematics, poses: &[f64], cone: f64, tol: Tolerances, out: &mut [u8]) -> usize
+    requires { (one_or_two k.now.count ≡ true) × (length_of k.now poses.now ≤ length out.old) }
+    ensures end { result ≡ length_of k.now poses.now }
+    ensures lent { out.new ≡ written out.old 0 (S.job_bytes k.now poses.now cone tol) }
 {
     let mut page = Page { out, at: 0 };
     let kind = kind_of(k);

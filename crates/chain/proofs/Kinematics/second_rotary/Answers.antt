@@ -12,4 +12,4 @@ told true second = (refl, refl)
 told false second = refl
 
 pub returns : goal.returns
-returns c = rw c.then_some.ensures (told (eqb c.args.self.count 2) c.args.self.second)
+returns c = rw c.then_some.ensures (told (eqb c.args.self.now.count 2) c.args.self.now.second)

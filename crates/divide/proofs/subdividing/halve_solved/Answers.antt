@@ -12,7 +12,7 @@ use Rattle.divide.proofs.subdividing.halve_solved.Goals as goal
 
 pub returns-then-idle : goal.returns-then-idle
 returns-then-idle c =
-    let e = idle_within (prepared c.args.k) c.args.tol c.space_in-space.result (length c.args.given.now / 6) (items_in (length c.args.given.now / 6) c.args.given.now c.args.joints.now) (items_length (length c.args.given.now / 6) c.args.given.now c.args.joints.now) (sym c.idle.ensures ∙ c.if-idle.true) in
+    let e = idle_within (prepared c.args.k.now) c.args.tol c.space_in-space.result (length c.args.given.now / 6) (items_in (length c.args.given.now / 6) c.args.given.now c.args.joints.now) (items_length (length c.args.given.now / 6) c.args.given.now c.args.joints.now) (sym c.idle.ensures ∙ c.if-idle.true) in
     let x = rw (← e) at c.cleared.ensures.lent.in_poses in
     let y = rw (← e) at c.cleared.ensures.lent.in_joints in
     rw (← c.space_in-space.ensures) (record { answer = rw e c.cleared.ensures.answer; poses = search rules; joints = search rules })
@@ -29,7 +29,7 @@ divide_solved-requires c = let b = busy c.space_in-space.result (length c.args.g
 pub returns : goal.returns
 returns c =
     let b = busy c.space_in-space.result (length c.args.given.now / 6) (sym c.idle.ensures ∙ c.if-idle.false) in
-    let s = busy_items (prepared c.args.k) c.args.tol c.space_in-space.result (length c.args.given.now / 6) c.args.given.now c.args.joints.now b.1 in
+    let s = busy_items (prepared c.args.k.now) c.args.tol c.space_in-space.result (length c.args.given.now / 6) c.args.given.now c.args.joints.now b.1 in
     let l = rw c.prepare-p.ensures at c.divide_solved.ensures.lent in
     let x = rw (← s) at l.in_poses in
     let y = rw (← s) at l.in_joints in

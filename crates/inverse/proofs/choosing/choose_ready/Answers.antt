@@ -10,5 +10,5 @@ use Rattle.inverse.proofs.choosing.choose_ready.Goals as goal
 pub returns : goal.returns
 unfolding choose
 returns c =
-    let e : inverse c.args.ready.now.k c.args.pose c.args.tool_length (hint_of c.args.choice) ≡ Ok c.in_ok-solutions.solutions = is (rw c.hint.ensures at c.inverse_ready.ensures.value) c.in_ok-solutions.was in
+    let e : inverse c.args.ready.now.k.now c.args.pose c.args.tool_length (hint_of c.args.choice) ≡ Ok c.in_ok-solutions.solutions = is (rw c.hint.ensures at c.inverse_ready.ensures.value) c.in_ok-solutions.was in
     rw (e, c.pick.ensures, c.deref.ensures.0)

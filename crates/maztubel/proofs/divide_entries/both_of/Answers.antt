@@ -1,7 +1,7 @@
 use Rattle.std.proofs.Common.{◌≡◌, Err, rules, ap, ◌∙◌}
 use Rattle.divide.specs.declared.DivisionError.{DivisionError}
 use Rattle.lists.proofs.Tests.{is}
-use Rattle.chain.proofs.Passing.{demand_passed, demand_refused}
+use Rattle.chain.proofs.Passing.{demand_passed, demand_refused, read_refused, read_served}
 use Rattle.maztubel.proofs.DividesFor.{refused_by, both_lengths_bad, both_bytes, both_chain}
 use Rattle.maztubel.proofs.divide_entries.both_of.Goals as goal
 
@@ -13,12 +13,12 @@ returns-in_err-demand c =
     let all = both_lengths_bad a.chain.now a.poses.now a.start.now a.cone a.tol a.out_poses.now a.out_joints.now (is c.both_lengths-whole.ensures d.0) (e ∙ ap refused_by d.1) in
     record { answer = all.0; poses = all.1.0; joints = all.1.1.0; price = all.1.1.1 }
 
-pub returns-in_err-k : goal.returns-in_err-k
-returns-in_err-k c =
+pub returns-in_err-read_chain_into : goal.returns-in_err-read_chain_into
+returns-in_err-read_chain_into c =
     let a = c.args in
-    let e : c.from_residual-in_err-k.result ≡ Err (DivisionError.Refused c.in_err-k.field-0.0) = search rules in
+    let e : c.from_residual-in_err-read_chain_into.result ≡ Err (DivisionError.Refused c.in_err-read_chain_into.field-0.0) = search rules in
     let w = is c.both_lengths-whole.ensures (demand_passed _ _ _ (is c.demand.ensures c.in_ok-demand.was)) in
-    let all = both_bytes a.chain.now a.poses.now a.start.now a.cone a.tol a.out_poses.now a.out_joints.now w (is c.read_chain.ensures c.in_err-k.was) in
+    let all = both_bytes a.chain.now a.poses.now a.start.now a.cone a.tol a.out_poses.now a.out_joints.now w (read_refused _ c.read_chain_into.ensures.chain c.in_err-read_chain_into.was) in
     record { answer = rw e all.0; poses = all.1.0; joints = all.1.1.0; price = all.1.1.1 }
 
 pub returns : goal.returns
@@ -27,6 +27,6 @@ returns c =
     let w = is c.both_lengths-whole.ensures (demand_passed _ _ _ (is c.demand.ensures c.in_ok-demand.was)) in
     let begin = c.start_in.ensures in
     let s = c.solve_and_divide.ensures in
-    let all = both_chain a.chain.now a.poses.now a.start.now a.cone a.tol a.out_poses.now a.out_joints.now w (is c.read_chain.ensures c.in_ok-k.was)
+    let all = both_chain a.chain.now a.poses.now a.start.now a.cone a.tol a.out_poses.now a.out_joints.now w (read_served _ c.read_chain_into.ensures.chain c.in_ok-read_chain_into.was)
     (rw begin at s.answer, (rw begin at s.poses, (rw begin at s.joints, rw begin at s.price))) in
     record { answer = all.0; poses = all.1.0; joints = all.1.1.0; price = all.1.1.1 }

@@ -12,4 +12,4 @@ returns-then-self-eq0 c =
     let whole = c.args.self.now.given.poses_whole in
     let none : length c.args.self.now.given.poses.now / 6 ≡ 0 = omega (arith, whole, c.if-self-eq0.true) in
     let nothing : c.default.result ≡ figures 0 0 0 = search rules in
-    rw nothing (no_pose c.args.self.now.k c.args.self.now.tol c.args.self.now.given.poses.now c.args.self.now.given.joints.now none)
+    rw nothing (no_pose c.args.self.now.k.now c.args.self.now.tol c.args.self.now.given.poses.now c.args.self.now.given.joints.now none)

@@ -1,37 +1,28 @@
--- That the numbers of a chain fit 64 bits, which their type says: `Is` is what is known of a value that was handed
--- over.
+-- That the numbers of a chain are doubles, which their type says: `Is` is what is known of a value that was handed over.
+-- What is prepared of such a chain is of doubles too.
+use mathlib.Core.Path.{◌≡◌, subst}
 use mathlib.Core.List.{List}
 use mir.Val.{Val}
 use denote.Laws.{Is}
 use borrow.Author.Rules.{rules}
-use lib.Dec.{T}
-use lib.Ieee.{binary64, fits}
+use mathlib.Core.Bool.{Bool, true, false, cond}
+use lib.Dec.{eqb}
 use Rattle.std.specs.Prelude.{None, Option, Some}
 use Rattle.geometry.specs.declared.Vec3.{Vec3}
 use Rattle.geometry.specs.contracts.Vec3 as VectorRow
 use Rattle.chain.specs.declared.RotaryLimits.{RotaryLimits}
+use Rattle.chain.specs.declared.Spin.{Spin}
 use Rattle.chain.specs.declared.RotaryJoint.{RotaryJoint}
 use Rattle.chain.specs.declared.Kinematics.{Kinematics}
 use Rattle.std.specs.contracts.option.Option as OptionRow
 use Rattle.chain.specs.contracts.RotaryLimits as LimitsRow
 use Rattle.chain.specs.contracts.RotaryJoint as RotaryRow
 use Rattle.chain.specs.contracts.Kinematics as ChainRow
-use Rattle.geometry.proofs.FitVectors.{FitVec}
-
-abbrev pub TravelFits : Option RotaryLimits → Type 0
-TravelFits None = Unit {0}
-TravelFits (Some l) = T (fits binary64 l.min) × T (fits binary64 l.max)
-
-pub record RotaryFits (j : RotaryJoint) : Type 0 where
-  pub axis : FitVec j.axis
-  pub pivot : FitVec j.pivot
-  pub limits : TravelFits j.limits
-  pub rest : T (fits binary64 j.rest)
-
-pub record ChainFits (k : Kinematics) : Type 0 where
-  pub first : RotaryFits k.first
-  pub second : RotaryFits k.second
-  pub spindle : FitVec k.spindle_axis
+use Rattle.geometry.specs.Doubles.{FitVec}
+use Rattle.geometry.proofs.FitVectors.{unit_or_fits}
+use Rattle.chain.specs.Doubles.{TravelFits, RotaryFits, ChainFits, SpinFits, PreparedFits}
+use Rattle.chain.specs.Prepared.{unit_axis, spin_of, second_spin, prepared}
+use Rattle.chain.proofs.UnitAxes.{FitAxes}
 
 vector_fits : (v : Vec3) (vs : List Val) → Is VectorRow.the_row v vs → FitVec v
 vector_fits v vs g = (search (rules, g), search (rules, g), search (rules, g))
@@ -54,3 +45,27 @@ chain_fits k vs g = record {
   second = rotary_fits k.second _ g.1.1.1.1.0;
   spindle = vector_fits k.spindle_axis _ g.1.1.1.1.1.0;
 }
+
+pub axes_fit : (k : Kinematics) → ChainFits k → FitAxes k
+axes_fit k F = (F.first.axis, F.second.axis, F.spindle)
+
+-- ---- prepared
+spin_fits : (j : RotaryJoint) → RotaryFits j → SpinFits (spin_of j)
+unfolding spin_of unit_axis
+spin_fits j F = (unit_or_fits j.axis j.axis F.axis, F.pivot)
+
+abbrev SecondFits : Option Spin → Type 0
+SecondFits None = Unit {0}
+SecondFits (Some s) = SpinFits s
+
+second_fits : (k : Kinematics) → RotaryFits k.second → (s : Spin) → second_spin k ≡ Some s → SpinFits s
+unfolding second_spin
+second_fits k F s e = subst SecondFits e (go (eqb k.count 2))
+  where
+    go : (two : Bool) → SecondFits (cond two (Some (spin_of k.second)) None)
+    go true = spin_fits k.second F
+    go false = tt
+
+pub prepared_fits : (k : Kinematics) → ChainFits k → PreparedFits (prepared k)
+unfolding prepared unit_axis
+prepared_fits k F = (spin_fits k.first F.first, second_fits k F.second, unit_or_fits k.spindle_axis k.spindle_axis F.spindle)
