@@ -5,6 +5,7 @@ ghost use Rattle.inverse.specs.Choose as S;
 
 use crate::inverse_map::inverse_ready;
 use crate::{Angles, Choice, Ranked, ReadyChain};
+use arrayvec::ArrayVec;
 use chain::{Joints, Kinematics, ToolPose};
 use refusal::Refusal;
 
@@ -116,7 +117,8 @@ pub fn choose_ready(
 ) -> Result<Joints, Refusal>
     ensures { result ≡ S.choose ready.now.k.now pose tool_length choice }
 {
-    let solutions = inverse_ready(ready, pose, tool_length, choice.hint())?;
+    let mut solutions = ArrayVec::new();
+    inverse_ready(ready, pose, tool_length, choice.hint(), &mut solutions)?;
     Ok(choice.pick(&solutions))
 }
 

@@ -1,6 +1,6 @@
 // The inverse map: from a tool pose to every joint set that reaches it, angles first, then the gauge position for each
 // pair of them.
-ghost use Rattle.std.specs.Prelude.{◌+◌, ◌≤◌, ◌<◌, ◌≡◌, IfOk, length};
+ghost use Rattle.std.specs.Prelude.{◌+◌, ◌≤◌, ◌<◌, ◌≡◌, IfOk, [], length};
 ghost use Rattle.inverse.specs.Inverse as S;
 
 use crate::ordering::insert;
@@ -68,17 +68,24 @@ pub fn reached_at(
     Some(joints_from(p, turns, angles, tip, pose0.tip))
 }
 
-// Each pair in turn. The pose's axis is a unit vector, here and below.
-fn all_solutions(p: Prepared, pose: ToolPose, tool_length: f64, pairs: &Pairs) -> Solutions
-    ensures { result.items ≡ S.solutions p pose.axis pose.tip tool_length pairs.now.items }
+// Each pair in turn, into a list that is empty: by value a list of 50 would be copied from function to function. The
+// pose's axis is a unit vector, here and below.
+fn all_solutions(
+    p: Prepared,
+    pose: ToolPose,
+    tool_length: f64,
+    pairs: &Pairs,
+    solutions: &mut Solutions,
+)
+    requires { solutions.old.items ≡ [] }
+    ensures list { solutions.new.items ≡ S.solutions p pose.axis pose.tip tool_length pairs.now.items }
+    ensures count { length solutions.new.items ≤ 50 }
 {
-    let mut solutions = ArrayVec::new();
     for angles in pairs.iter() {
         if let Some(j) = reached_at(p, pose.axis, pose.tip, tool_length, *angles) {
-            insert(&mut solutions, j);
+            insert(solutions, j);
         }
     }
-    solutions
 }
 
 #[tactic(auto, unfolding(crate::specs::Inverse::positions_finite))]
@@ -106,22 +113,25 @@ fn solved_check(raw: RawPair, pairs: &[Angles], solutions: &[Joints]) -> Result<
     demand(!solutions.is_empty(), Cause::NotReachable, 0)
 }
 
-// The answers of a checked chain.
+// The answers of a checked chain, into a list that is empty.
 #[tactic(auto, unfolding(crate::specs::Inverse::solved, crate::specs::Inverse::raw_angles, crate::specs::Inverse::wrapped))]
 fn solved(
     ready: &ReadyChain<'_>,
     pose: ToolPose,
     tool_length: f64,
     hint: Angles,
-) -> Result<Solutions, Refusal>
-    ensures { result ≡ S.solved ready.now.k.now pose.axis pose.tip tool_length hint }
+    solutions: &mut Solutions,
+) -> Result<(), Refusal>
+    requires { solutions.old.items ≡ [] }
+    ensures value { S.answered result solutions.new ≡ S.solved ready.now.k.now pose.axis pose.tip tool_length hint }
+    ensures count { length solutions.new.items ≤ 50 }
 {
     let k = ready.k;
     let raw = orientation_angles(ready.p, pose.axis, hint);
-    let pairs = expand_wraps(k.first.limits, second_travel(k), raw);
-    let solutions = all_solutions(ready.p, pose, tool_length, &pairs);
-    solved_check(raw, &pairs, &solutions)?;
-    Ok(solutions)
+    let mut pairs = ArrayVec::new();
+    expand_wraps(k.first.limits, second_travel(k), raw, &mut pairs);
+    all_solutions(ready.p, pose, tool_length, &pairs, solutions);
+    solved_check(raw, &pairs, solutions)
 }
 
 #[tactic(auto, unfolding(crate::specs::Inverse::hint_finite))]
@@ -169,20 +179,29 @@ fn inverse_check(
     )
 }
 
-// `inverse` of a chain that the caller has prepared.
+// `inverse` of a chain that the caller has prepared, into a list that is empty. What the list holds beside a refusal is
+// not said.
 #[tactic(auto, unfolding(crate::specs::Inverse::inverse))]
 pub fn inverse_ready(
     ready: &ReadyChain<'_>,
     pose: ToolPose,
     tool_length: f64,
     hint: Angles,
-) -> Result<Solutions, Refusal>
-    ensures value { result ≡ S.inverse ready.now.k.now pose tool_length hint }
-    ensures count { IfOk result (λ s. length s.items ≤ 50) }
+    solutions: &mut Solutions,
+) -> Result<(), Refusal>
+    requires { solutions.old.items ≡ [] }
+    ensures value { S.answered result solutions.new ≡ S.inverse ready.now.k.now pose tool_length hint }
+    ensures count { length solutions.new.items ≤ 50 }
 {
     inverse_check(ready.k, pose, tool_length, hint)?;
     let axis = geometry::unit_direction(pose.axis).ok_or(Refusal::new(Cause::ToolAxisZero, 0))?;
-    solved(ready, ToolPose { axis, ..pose }, tool_length, hint)
+    solved(
+        ready,
+        ToolPose { axis, ..pose },
+        tool_length,
+        hint,
+        solutions,
+    )
 }
 
 // Every joint set that reaches the pose, in order, or the first refusal. The four parameters are C's, as those of
@@ -196,5 +215,7 @@ pub fn inverse(
     ensures value { result ≡ S.inverse k.now pose tool_length hint }
     ensures count { IfOk result (λ s. length s.items ≤ 50) }
 {
-    inverse_ready(&ReadyChain::of(k), pose, tool_length, hint)
+    let mut solutions = ArrayVec::new();
+    inverse_ready(&ReadyChain::of(k), pose, tool_length, hint, &mut solutions)?;
+    Ok(solutions)
 }

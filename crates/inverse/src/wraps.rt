@@ -1,6 +1,6 @@
 // Whole turns: each raw angle from two turns back to two turns on, as far as its rotary may go, and each first angle
 // paired with each second one.
-ghost use Rattle.std.specs.Prelude.{◌+◌, ◌≤◌, ◌<◌, ◌≡◌, length};
+ghost use Rattle.std.specs.Prelude.{◌+◌, ◌≤◌, ◌<◌, ◌≡◌, [], length};
 ghost use Rattle.inverse.specs.Wraps as S;
 
 use crate::{Angles, Candidates, Pairs, RawPair};
@@ -122,17 +122,18 @@ pub fn second_travel(k: &Kinematics) -> Option<RotaryLimits>
     k.second_rotary()?.limits
 }
 
+// All that both raw pairs give, into a list that is empty.
 #[tactic(auto, unfolding(crate::specs::Wraps::expand_wraps))]
 pub fn expand_wraps(
     first: Option<RotaryLimits>,
     second: Option<RotaryLimits>,
     raw: RawPair,
-) -> Pairs
-    ensures list { result.items ≡ S.expand_wraps first second raw }
-    ensures count { length result.items ≤ 50 }
+    pairs: &mut Pairs,
+)
+    requires { pairs.old.items ≡ [] }
+    ensures list { pairs.new.items ≡ S.expand_wraps first second raw }
+    ensures count { length pairs.new.items ≤ 50 }
 {
-    let mut pairs = ArrayVec::new();
-    add_raw(first, second, raw.first, &mut pairs);
-    add_raw(first, second, raw.second, &mut pairs);
-    pairs
+    add_raw(first, second, raw.first, pairs);
+    add_raw(first, second, raw.second, pairs);
 }

@@ -10,7 +10,7 @@ use Rattle.inverse.proofs.inverse_map.all_solutions.Goals as goal
 use Rattle.inverse.proofs.inverse_map.all_solutions.Goals.{in-Some, in_default}
 
 pub loop-angles-init : goal.loop-angles-init
-loop-angles-init c = record { count = omega (arith, ap length c.new-solutions.ensures); list = rw c.new-solutions.ensures (folding_start (omega arith)) }
+loop-angles-init c = record { count = omega (arith, ap length c.requires); list = rw c.requires (folding_start (omega arith)) }
 
 pub loop-angles-preserved : goal.loop-angles-preserved
 loop-angles-preserved c =
@@ -26,4 +26,7 @@ loop-angles-preserved c =
     ]
 
 pub returns : goal.returns
-returns c = folding_all (omega (arith, ap length c.deref-angles-items.ensures.0)) c.loop-angles.invariant.list ∙ taken_all _ _ _ _ _
+returns c = record {
+  list = folding_all (omega (arith, ap length c.deref-angles-items.ensures.0)) c.loop-angles.invariant.list ∙ taken_all _ _ _ _ _;
+  count = omega (arith, c.loop-angles.invariant.count, c.loop-angles.auto.angles-index-end, c.deref-angles-items.ensures.1);
+}
