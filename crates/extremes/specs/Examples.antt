@@ -8,7 +8,7 @@ use Rattle.lists.specs.Fold.{fold}
 use Rattle.lists.specs.Rows.{rows, flat}
 use Rattle.float.specs.Helpers.{nought, size_of}
 use Rattle.float.specs.TotalOrder.{before}
-use Rattle.refusal.specs.Numbers.{refusal}
+use Rattle.refusal.specs.Numbers.{number_of, refusal}
 use Rattle.refusal.specs.declared.Cause.{Cause}
 use Rattle.geometry.specs.Vector.{vector}
 use Rattle.chain.specs.declared.Joints.{Joints}
@@ -90,5 +90,6 @@ zeros = (refl, refl, refl)
 
 -- ---- an empty path has no groups, and nothing above any angle; a rotary that is none is refused all the same
 no_sets : (summary_of (sets_in []) ≡ []) × (ask_of [] [] 0 ninety ≡ Ok None) × (ask_of [] [] 2 ninety ≡ Err (refusal Cause.LengthsDiffer 0))
+    × (number_of Cause.LengthsDiffer ≡ 20)
 unfolding ninety summary_of sets_in rows flat groups group_count ask_of ask_check ask_good lengths_good within found_among first_above first_index of_bits Ieee.lt Ieee.le Ieee.eq size_of
-no_sets = (refl, refl, refl)
+no_sets = (refl, refl, refl, refl)

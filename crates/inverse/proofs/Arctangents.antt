@@ -244,7 +244,7 @@ by_count (Some s) first single single' both both' S f g = g S.small
 orientation_same : (p : Prepared) (target : Vec3) (hint : Angles) → UnitChain p → SmallVec 1 target → orientation_with sp1 p target hint ≡ orientation_with plain_sp1 p target hint
 unfolding orientation_with
 orientation_same p target hint C T =
-    by_count p.second p.first _ _ _ _ C.second
+    by_count p.second (record p.first { carrier = Head }) _ _ _ _ C.second
     (ap (λ (s : Option SolvedAngle). first_only (one_angle s (sign_of p.first.carrier) hint)) (sp1_plain p.first.axis p.spindle target C.first.small (vec_raise 1 300 p.spindle (lit≤ tt) C.spindle.small) (vec_raise 1 300 target (lit≤ tt) T)))
     (λ S. let m = axis_units p C.first.small S in two_same (axis_map_of p) p.spindle target hint m.0 m.1 C.spindle.small T)
 

@@ -34,9 +34,9 @@ map_of Table Head first second = table_and_head first second false
 map_of Head Table first second = table_and_head second first true
 map_of Head Head first second = two_heads first second
 
--- the other rotary; a chain of one has no such equation, and its rotary stands for both
+-- the other rotary; a chain of one has no such equation, and a head about the first axis stands for it
 abbrev pub inner_of : Prepared → Spin
-inner_of p = unwrap_or p.second p.first
+inner_of p = unwrap_or p.second (record p.first { carrier = Head })
 
 unfoldable pub axis_map_of : Prepared → AxisMap
 axis_map_of p = map_of p.first.carrier (inner_of p).carrier p.first.axis (inner_of p).axis

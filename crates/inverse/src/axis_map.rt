@@ -5,7 +5,7 @@ ghost use Rattle.inverse.specs.AxisMap as S;
 
 use crate::subproblem::apply_angle;
 use crate::{Angles, AxisMap, SolvedAngle};
-use chain::{Carrier, Prepared};
+use chain::{Carrier, Prepared, Spin};
 use geometry::{Vec3, cross, norm};
 
 fn two_tables(outer: Vec3, inner: Vec3) -> AxisMap
@@ -48,13 +48,17 @@ fn table_and_head(table: Vec3, head: Vec3, swapped: bool) -> AxisMap
     }
 }
 
-// Of two rotaries. A chain of one has no such equation: its rotary stands for both, and no one asks.
+// Of two rotaries. A chain of one has no such equation, and what stands for the second counts as a head that turns
+// about the first one's axis.
 #[tactic(auto, unfolding(crate::specs::AxisMap::axis_map_of))]
 pub fn axis_map_of(p: Prepared) -> AxisMap
     ensures { result ≡ S.axis_map_of p }
 {
     let first = p.first;
-    let second = p.second.unwrap_or(first);
+    let second = p.second.unwrap_or(Spin {
+        carrier: Carrier::Head,
+        ..first
+    });
     match (first.carrier, second.carrier) {
         (Carrier::Table, Carrier::Table) => two_tables(first.axis, second.axis),
         (Carrier::Table, Carrier::Head) => table_and_head(first.axis, second.axis, false),

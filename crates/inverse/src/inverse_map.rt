@@ -6,7 +6,7 @@ ghost use Rattle.inverse.specs.Inverse as S;
 use crate::ordering::insert;
 use crate::orientation::orientation_angles;
 use crate::wraps::{expand_wraps, second_travel};
-use crate::{Angles, Pairs, RawPair, ReadyChain, Solutions};
+use crate::{Angles, PairList, RawPair, ReadyChain, SolutionList};
 use arrayvec::ArrayVec;
 use chain::{Joints, Kinematics, Prepared, ToolPose, Turns, demand, within};
 use geometry::Vec3;
@@ -74,8 +74,8 @@ fn all_solutions(
     p: Prepared,
     pose: ToolPose,
     tool_length: f64,
-    pairs: &Pairs,
-    solutions: &mut Solutions,
+    pairs: &PairList,
+    solutions: &mut SolutionList,
 )
     requires { solutions.old.items ≡ [] }
     ensures list { solutions.new.items ≡ S.solutions p pose.axis pose.tip tool_length pairs.now.items }
@@ -120,7 +120,7 @@ fn solved(
     pose: ToolPose,
     tool_length: f64,
     hint: Angles,
-    solutions: &mut Solutions,
+    solutions: &mut SolutionList,
 ) -> Result<(), Refusal>
     requires { solutions.old.items ≡ [] }
     ensures value { S.answered result solutions.new ≡ S.solved ready.now.k.now pose.axis pose.tip tool_length hint }
@@ -187,7 +187,7 @@ pub fn inverse_ready(
     pose: ToolPose,
     tool_length: f64,
     hint: Angles,
-    solutions: &mut Solutions,
+    solutions: &mut SolutionList,
 ) -> Result<(), Refusal>
     requires { solutions.old.items ≡ [] }
     ensures value { S.answered result solutions.new ≡ S.inverse ready.now.k.now pose tool_length hint }
@@ -211,7 +211,7 @@ pub fn inverse(
     pose: ToolPose,
     tool_length: f64,
     hint: Angles,
-) -> Result<Solutions, Refusal>
+) -> Result<SolutionList, Refusal>
     ensures value { result ≡ S.inverse k.now pose tool_length hint }
     ensures count { IfOk result (λ s. length s.items ≤ 50) }
 {

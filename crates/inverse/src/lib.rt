@@ -9,6 +9,7 @@ ghost use Rattle.inverse.specs.Wraps.{angles_in};
 
 mod axis_map;
 mod choosing;
+mod copied;
 mod inverse_map;
 mod ordering;
 mod orientation;
@@ -89,14 +90,34 @@ pub struct AxisMap {
     pub inner_is_x: bool,
 }
 
-// An angle turned by whole turns, as far as its rotary may go.
-pub type Candidates = ArrayVec<f64, 5>;
+// An angle turned by whole turns, as far as its rotary may go, as they are found.
+pub type CandidateList = ArrayVec<f64, 5>;
 
-// Pairs of angles, no two the same.
-pub type Pairs = ArrayVec<Angles, 50>;
+// Pairs of angles, no two the same, as they are found.
+pub type PairList = ArrayVec<Angles, 50>;
 
-// Joint sets in order.
-pub type Solutions = ArrayVec<Joints, 50>;
+// Joint sets in order, as they are found: what `inverse` answers.
+pub type SolutionList = ArrayVec<Joints, 50>;
+
+// The same three as values that are copied where they stand, which the library's vector is not. What stands past the
+// count is +0.0.
+#[derive(Clone, Copy)]
+pub struct Candidates {
+    pub count: usize,
+    pub items: [f64; 5],
+}
+
+#[derive(Clone, Copy)]
+pub struct Pairs {
+    pub count: usize,
+    pub items: [Angles; 50],
+}
+
+#[derive(Clone, Copy)]
+pub struct Solutions {
+    pub count: usize,
+    pub items: [Joints; 50],
+}
 
 // A chain with what it is prepared to: crate hirth needs that for the teeth too, and so it is made once.
 #[derive(Clone, Copy)]

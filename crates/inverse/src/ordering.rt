@@ -4,7 +4,7 @@ ghost use Rattle.std.specs.Prelude.{◌+◌, ◌≤◌, ◌<◌, ◌≡◌, List
 ghost use Rattle.std.specs.List.{position_or_len};
 ghost use Rattle.inverse.specs.Solutions as S;
 
-use crate::Solutions;
+use crate::SolutionList;
 use chain::Joints;
 use std::cmp::Ordering;
 
@@ -46,7 +46,7 @@ fn bring_last(list: &mut [Joints], place: usize, last: usize)
 }
 
 // j before the first that it precedes.
-pub fn insert(solutions: &mut Solutions, j: Joints)
+pub fn insert(solutions: &mut SolutionList, j: Joints)
     requires { length solutions.old.items < 50 }
     ensures list { solutions.new.items ≡ S.insert solutions.old.items j }
     ensures count { length solutions.new.items ≡ length solutions.old.items + 1 }

@@ -3,7 +3,7 @@
 ghost use Rattle.std.specs.Prelude.{◌+◌, ◌≤◌, ◌<◌, ◌≡◌, [], length};
 ghost use Rattle.inverse.specs.Wraps as S;
 
-use crate::{Angles, Candidates, Pairs, RawPair};
+use crate::{Angles, CandidateList, PairList, RawPair};
 use arrayvec::ArrayVec;
 use chain::{Kinematics, RotaryLimits};
 
@@ -24,7 +24,7 @@ fn allowed(travel: Option<RotaryLimits>, angle: f64) -> bool
 }
 
 #[tactic(auto, unfolding(crate::specs::Wraps::keep_allowed))]
-fn keep_allowed(travel: Option<RotaryLimits>, kept: &mut Candidates, angle: f64)
+fn keep_allowed(travel: Option<RotaryLimits>, kept: &mut CandidateList, angle: f64)
     requires { length kept.old.items < 5 }
     ensures list { kept.new.items ≡ S.keep_allowed travel kept.old.items angle }
     ensures count { length kept.new.items ≤ length kept.old.items + 1 }
@@ -34,7 +34,7 @@ fn keep_allowed(travel: Option<RotaryLimits>, kept: &mut Candidates, angle: f64)
     }
 }
 
-fn angle_candidates(angle: f64, travel: Option<RotaryLimits>) -> Candidates
+fn angle_candidates(angle: f64, travel: Option<RotaryLimits>) -> CandidateList
     ensures list { result.items ≡ S.angle_candidates angle travel }
     ensures count { length result.items ≤ 5 }
 {
@@ -63,7 +63,7 @@ fn has(pairs: &[Angles], pair: Angles) -> bool
 // A pair of which there is none the same yet. The room in `pairs` is a clause and no type of its own: here it is that
 // for one pair, in `add_row` for 5, in `add_rows` and `add_raw` for 25, and a type would say one of the three.
 #[tactic(auto, unfolding(crate::specs::Wraps::add_pair))]
-fn add_pair(a0: f64, pairs: &mut Pairs, a1: f64)
+fn add_pair(a0: f64, pairs: &mut PairList, a1: f64)
     requires { length pairs.old.items < 50 }
     ensures list { pairs.new.items ≡ S.add_pair a0 pairs.old.items a1 }
     ensures count { length pairs.new.items ≤ length pairs.old.items + 1 }
@@ -75,7 +75,7 @@ fn add_pair(a0: f64, pairs: &mut Pairs, a1: f64)
 }
 
 // One first angle with every second one.
-fn add_row(second: &Candidates, pairs: &mut Pairs, a0: f64)
+fn add_row(second: &CandidateList, pairs: &mut PairList, a0: f64)
     requires { length pairs.old.items + 5 ≤ 50 }
     ensures list { pairs.new.items ≡ S.add_row second.now.items pairs.old.items a0 }
     ensures count { length pairs.new.items ≤ length pairs.old.items + 5 }
@@ -85,7 +85,7 @@ fn add_row(second: &Candidates, pairs: &mut Pairs, a0: f64)
     }
 }
 
-fn add_rows(first: &Candidates, second: &Candidates, pairs: &mut Pairs)
+fn add_rows(first: &CandidateList, second: &CandidateList, pairs: &mut PairList)
     requires { length pairs.old.items + 25 ≤ 50 }
     ensures list { pairs.new.items ≡ S.add_rows first.now.items second.now.items pairs.old.items }
     ensures count { length pairs.new.items ≤ length pairs.old.items + 25 }
@@ -100,7 +100,7 @@ fn add_raw(
     first: Option<RotaryLimits>,
     second: Option<RotaryLimits>,
     raw: Option<Angles>,
-    pairs: &mut Pairs,
+    pairs: &mut PairList,
 )
     requires { length pairs.old.items + 25 ≤ 50 }
     ensures list { pairs.new.items ≡ S.add_raw first second raw pairs.old.items }
@@ -128,7 +128,7 @@ pub fn expand_wraps(
     first: Option<RotaryLimits>,
     second: Option<RotaryLimits>,
     raw: RawPair,
-    pairs: &mut Pairs,
+    pairs: &mut PairList,
 )
     requires { pairs.old.items ≡ [] }
     ensures list { pairs.new.items ≡ S.expand_wraps first second raw }

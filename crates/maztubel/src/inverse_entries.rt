@@ -6,7 +6,7 @@ ghost use Rattle.maztubel.specs.InverseEntries as S;
 
 use crate::lent::hand_back;
 use chain::{Joints, Kinematics, demand};
-use inverse::{Angles, Choice, Solutions};
+use inverse::{Angles, Choice, SolutionList};
 use refusal::{Cause, Refusal};
 
 pub fn maztubel_inverse(
@@ -88,7 +88,7 @@ fn inverse_of(
     tool_length: f64,
     hint: &[f64],
     room: usize,
-) -> Result<Solutions, Refusal>
+) -> Result<SolutionList, Refusal>
     ensures { result ≡ S.inverse_of chain.now pose.now tool_length hint.now room }
 {
     demand(
@@ -155,7 +155,7 @@ fn put_sets(solutions: &[Joints], list: &mut [f64])
 
 // Tests the room again, as the definitions do, and as `put_chosen` does: a `requires` in place of the test would have
 // every caller prove that an answer comes only with its room.
-fn put_list(answers: &Result<Solutions, Refusal>, list: &mut [f64])
+fn put_list(answers: &Result<SolutionList, Refusal>, list: &mut [f64])
     ensures { list.new ≡ S.list_over answers.now list.old }
 {
     match answers {
@@ -165,7 +165,7 @@ fn put_list(answers: &Result<Solutions, Refusal>, list: &mut [f64])
     }
 }
 
-fn put_count(answers: &Result<Solutions, Refusal>, count: &mut u64)
+fn put_count(answers: &Result<SolutionList, Refusal>, count: &mut u64)
     ensures { count.new ≡ S.count_over answers.now count.old }
 {
     match answers {

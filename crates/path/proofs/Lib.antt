@@ -1,3 +1,4 @@
+pub mod Setups
 pub mod FarApart
 pub mod Literals
 pub mod FarFromPole

@@ -33,6 +33,7 @@ use Rattle.geometry.proofs.UnitSize.{unit_small}
 use Rattle.chain.specs.Checked.{Checked}
 use Rattle.chain.specs.declared.Joints.{Joints}
 use Rattle.chain.specs.declared.Kinematics.{Kinematics}
+use Rattle.chain.specs.declared.Carrier.TheVariants.{Head}
 use Rattle.chain.specs.declared.Spin.{Spin}
 use Rattle.chain.specs.declared.Prepared.{Prepared}
 use Rattle.chain.specs.declared.ToolPose.{ToolPose}
@@ -166,7 +167,7 @@ module _ (k : Kinematics) (cone : Float) (F : FitAxes k) (passed : chain_check k
   unfolding singular_frame
   framed f e =
       let p = prepared k in
-      let t = two_of p.second p.first (λ second. frame_of_two p.first.axis second.axis p.spindle) f units.second e in
+      let t = two_of p.second (record p.first { carrier = Head }) (λ second. frame_of_two p.first.axis second.axis p.spindle) f units.second e in
       (subst FrameSmall t.1 (two_small p.first.axis (inner_of p).axis p.spindle units.first.small t.0), axis_units p units.first.small t.0)
 
   set_up_is : SetUp (set_up k cone)

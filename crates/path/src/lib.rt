@@ -21,7 +21,7 @@ mod unwinding;
 use chain::{Prepared, RotaryLimits};
 use geometry::Vec3;
 use inverse::Angles;
-pub use posing::{bounds_of, pose_answer, set_up};
+pub use posing::{bounds_of, pose_answer, pose_answer_of, set_up};
 pub use solving::{
     clear_from, cone_good, path_chain, pose_in, put_joints, solve_check, solve_checked, solve_path,
     whole_records,

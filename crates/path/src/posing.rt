@@ -1,7 +1,8 @@
 // One pose of a path: its own checks, the cone or the exact solution, and the size of the angles. Which pose it is, is
 // said here, once for every refusal.
-ghost use Rattle.std.specs.Prelude.{◌≡◌};
+ghost use Rattle.std.specs.Prelude.{◌≡◌, true};
 ghost use Rattle.path.specs.Posing as S;
+ghost use Rattle.path.specs.Closest.{bounded};
 ghost use Rattle.path.specs.Locking.{cone_solution};
 ghost use Rattle.path.specs.Exact.{exact_pose};
 
@@ -152,9 +153,10 @@ fn at_pose(answer: Result<Joints, Refusal>, index: u64) -> Result<Joints, Refusa
     answer.map_err(|r| Refusal { at: index, ..r })
 }
 
-// The joints of a pose, continuous with the angles before it, or its refusal.
+// The joints of a pose, continuous with the angles before it, or its refusal. By reference: a path has one setup for
+// all of its poses.
 #[tactic(auto, unfolding(crate::specs::Posing::pose_answer))]
-pub fn pose_answer(
+pub fn pose_answer_of(
     s: &CheckedSetup,
     pose: ToolPose,
     previous: Angles,
@@ -163,4 +165,17 @@ pub fn pose_answer(
     ensures { result ≡ S.pose_answer s.now.setup pose previous index }
 {
     at_pose(solved_pose(s, pose, previous), index)
+}
+
+// The same of a setup by value, which is of doubles by its type: asked is that its chain's numbers are bounded.
+pub fn pose_answer(
+    s: Setup,
+    pose: ToolPose,
+    previous: Angles,
+    index: u64,
+) -> Result<Joints, Refusal>
+    requires { bounded s.chain ≡ true }
+    ensures { result ≡ S.pose_answer s pose previous index }
+{
+    pose_answer_of(&CheckedSetup { setup: s }, pose, previous, index)
 }

@@ -9,7 +9,7 @@ ghost use Rattle.path.specs.Solving as S;
 ghost use Rattle.path.specs.Promise.{OnPath, Served};
 
 use crate::CheckedSetup;
-use crate::posing::{pose_answer, set_up};
+use crate::posing::{pose_answer_of, set_up};
 use chain::{Joints, Kinematics, ToolPose, demand};
 use geometry::Vec3;
 use inverse::Angles;
@@ -152,7 +152,7 @@ fn solve_poses(
     let mut previous = start;
     for i in 0..n {
         let pose = pose_in(poses, i * 6);
-        let j = match pose_answer(s, pose, previous, i as u64) {
+        let j = match pose_answer_of(s, pose, previous, i as u64) {
             Ok(j) => j,
             Err(r) => {
                 out.fill(0.0);

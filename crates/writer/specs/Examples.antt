@@ -7,7 +7,7 @@ use Rattle.std.specs.Float.Ieee.{of_bits, to_bits}
 use Rattle.lists.specs.Rows.{flat}
 use Rattle.float.specs.Helpers.{nought}
 use Rattle.geometry.specs.Vector.{vector}
-use Rattle.refusal.specs.Numbers.{refusal}
+use Rattle.refusal.specs.Numbers.{number_of, refusal}
 use Rattle.refusal.specs.declared.Cause.{Cause}
 use Rattle.chain.specs.Checked.{Checked}
 use Rattle.chain.specs.declared.Carrier.TheVariants.{Head}
@@ -83,23 +83,28 @@ longest : (leb (job_length 72 1 (6 * 1362)) 65536 ≡ true)
 unfolding job_length
 longest = (refl, refl, refl, refl, refl, refl, refl, refl)
 
--- ---- each refusal with everything behind it at fault too
+-- ---- each refusal, with its number, where everything behind it is at fault too
 refused : Cause → Checked
 refused cause = Err (refusal cause 0)
 
+-- refused for a cause that has this number
+RefusedBy : ℕ → Cause → Checked → Type 0
+RefusedBy number cause checked = (checked ≡ refused cause) × (number_of cause ≡ number)
+
 order : (k : Kinematics) → chain_check k ≡ Ok tt
-    → (in_order k false false false false false false false ≡ refused Cause.LengthsDiffer)
-    × (in_order k true false false false false false false ≡ refused Cause.Cone)
-    × (in_order k true true false false false false false ≡ refused Cause.Tolerance)
-    × (in_order k true true true false false false false ≡ refused Cause.Tolerance)
-    × (in_order k true true true true false false false ≡ refused Cause.NotFinite)
-    × (in_order k true true true true true false false ≡ refused Cause.TooLarge)
-    × (in_order k true true true true true true false ≡ refused Cause.NoSpace)
+    → RefusedBy 20 Cause.LengthsDiffer (in_order k false false false false false false false)
+    × RefusedBy 18 Cause.Cone (in_order k true false false false false false false)
+    × RefusedBy 19 Cause.Tolerance (in_order k true true false false false false false)
+    × RefusedBy 19 Cause.Tolerance (in_order k true true true false false false false)
+    × RefusedBy 16 Cause.NotFinite (in_order k true true true true false false false)
+    × RefusedBy 17 Cause.TooLarge (in_order k true true true true true false false)
+    × RefusedBy 28 Cause.NoSpace (in_order k true true true true true true false)
     × (in_order k true true true true true true true ≡ Ok tt)
-unfolding in_order refused
-order k e = rw e (refl, refl, refl, refl, refl, refl, refl, refl)
+unfolding in_order refused RefusedBy
+order k e = rw e ((refl, refl), (refl, refl), (refl, refl), (refl, refl), (refl, refl), (refl, refl), (refl, refl), refl)
 
 -- the chain's refusal comes before the cone's
-chain_first : (k : Kinematics) → chain_check k ≡ refused Cause.SpindleZero → in_order k true false false false false false false ≡ refused Cause.SpindleZero
-unfolding in_order refused
-chain_first k e = rw e
+chain_first : (k : Kinematics) → chain_check k ≡ refused Cause.SpindleZero
+    → RefusedBy 9 Cause.SpindleZero (in_order k true false false false false false false)
+unfolding in_order refused RefusedBy
+chain_first k e = rw e (refl, refl)

@@ -9,7 +9,7 @@ pub returns-in-Err : goal.returns-in-Err
 returns-in-Err c =
     let all = walking_refused c.loop-i-test.true
     c.loop-i.invariant
-    (rw c.pose_in-pose.ensures at c.pose_answer.ensures)
+    (rw c.pose_in-pose.ensures at c.pose_answer_of.ensures)
     c.in-Err.is
     (c.fill.ensures.after (λ y e. e)) in
     record { checked = all.0; lent = all.1 }
@@ -19,7 +19,7 @@ loop-i-preserved c =
     rw (c.put_joints.ensures, c.from-previous.ensures)
     (walking_step c.loop-i-test.true
     c.loop-i.invariant
-    ((rw c.pose_in-pose.ensures at (sym c.pose_answer.ensures))
+    ((rw c.pose_in-pose.ensures at (sym c.pose_answer_of.ensures))
     ∙ c.in-Ok.is))
 
 pub returns : goal.returns
