@@ -1,7 +1,8 @@
 -- Every angle that solve_path turns a rotary by is finite and within 37,000 degrees: at every pose, outside the cone
--- and inside it (`pose_turns`), all along the path (`path_turns`).
+-- and inside it (`pose_turns`), all along the path (`path_turns`). What they say of the lock holds by any map of the
+-- rotaries whose signs are at most 1 in size (`lock_turns`, `path_lock_turns`).
 use mathlib.Core.Path.{◌≡◌}
-use mathlib.Core.Bool.{Bool, true, not, and-eq-true_iff}
+use mathlib.Core.Bool.{Bool, true, not, cond, and-eq-true_iff}
 use mathlib.Core.List.{List, [], ◌∷◌}
 use Prim.Native.Nat.{ℕ, suc, ◌≤◌}
 use lib.Dec.{lit≤, lit<}
@@ -182,16 +183,29 @@ straying_turned : (s : Setup) (target : Vec3) (pole a : Result Joints Refusal) �
 straying_turned s target pole (Ok j) g h = chosen (Holds Turned) (strays s target j) pole _ (λ e. g) (λ e. limits_turned s.bounds j h)
 straying_turned s target pole (Err r) g h = tt
 
-module _ (s : Setup) (previous : Angles) (P : PairUpTo 36000 previous) where
-  unwound_locked : (onSecond : Bool) (target : Vec3) → PairUpTo 37000 (unwind_angles (has_second s.bounds) (locked_angles (axis_map_of s.chain) onSecond s.chain.spindle target previous) previous)
-  unwound_locked onSecond target =
-      unwound_pair (has_second s.bounds) _ previous (pair_more 36000 36180 _ (lit≤ tt) (locked_up_to (axis_map_of s.chain) (axis_signs s.chain) s.chain.spindle target previous P onSecond)) P
+-- `locked_joints` by any map of the rotaries: in the map of a chain of one something stands for the second, and the
+-- bounds hold whatever that is
+unfoldable pub locked_by : AxisMap → Setup → Bool → Vec3 → Vec3 → Angles → Result Joints Refusal
+locked_by m s onSecond target tip previous =
+    cond (Ieee.lt (norm (cross m.wa m.wb)) shortest) (refused Cause.PoseUnreachable)
+    (placed_at s.chain tip
+    (unwind_angles (has_second s.bounds) (locked_angles m onSecond s.chain.spindle target previous) previous))
 
-  locked_turned : (onSecond : Bool) (target tip : Vec3) → Holds Turned (locked_joints s onSecond target tip previous)
-  unfolding locked_joints
-  locked_turned onSecond target tip =
-      chosen (Holds Turned) (Ieee.lt (norm (cross (axis_map_of s.chain).wa (axis_map_of s.chain).wb)) shortest) _ _ (λ e. tt)
+module _ (m : AxisMap) (S : Signs m) (s : Setup) (previous : Angles) (P : PairUpTo 36000 previous) where
+  unwound_locked : (onSecond : Bool) (target : Vec3) → PairUpTo 37000 (unwind_angles (has_second s.bounds) (locked_angles m onSecond s.chain.spindle target previous) previous)
+  unwound_locked onSecond target =
+      unwound_pair (has_second s.bounds) _ previous (pair_more 36000 36180 _ (lit≤ tt) (locked_up_to m S s.chain.spindle target previous P onSecond)) P
+
+  turned_by : (onSecond : Bool) (target tip : Vec3) → Holds Turned (locked_by m s onSecond target tip previous)
+  unfolding locked_by
+  turned_by onSecond target tip =
+      chosen (Holds Turned) (Ieee.lt (norm (cross m.wa m.wb)) shortest) _ _ (λ e. tt)
       (λ e. placed_turned s.chain tip _ (unwound_locked onSecond target))
+
+module _ (s : Setup) (previous : Angles) (P : PairUpTo 36000 previous) where
+  locked_turned : (onSecond : Bool) (target tip : Vec3) → Holds Turned (locked_joints s onSecond target tip previous)
+  unfolding locked_joints locked_by
+  locked_turned onSecond target tip = turned_by (axis_map_of s.chain) (axis_signs s.chain) s previous P onSecond target tip
 
   cone_turned : (f : SingularFrame) (target tip : Vec3) → Holds Turned (cone_solution s f target tip previous)
   unfolding cone_solution
@@ -233,15 +247,33 @@ pub record PoseTurns (s : Setup) (previous : Angles) : Type 0 where
   -- the joints that `strays` takes the axis of
   pub tested : (onSecond : Bool) (target tip : Vec3) → Holds (λ j. BothTurnable (angles_of j)) (locked_joints s onSecond target tip previous)
 
-pub pose_turns : (s : Setup) (previous : Angles) → PairUpTo 36000 previous → PoseTurns s previous
-pose_turns s previous P = record {
-  first = λ target. raw_turnable (orientation_angles s.chain target previous).first (raw_within s.chain target previous P).0;
-  second = λ target. raw_turnable (orientation_angles s.chain target previous).second (raw_within s.chain target previous P).1;
-  lock_x = up_to_turnable 36000 _ (lit≤ tt) (lock_x_turned (axis_map_of s.chain) (axis_signs s.chain) s.chain.spindle s.chain.spindle previous P);
-  lock_y = up_to_turnable 36000 _ (lit≤ tt) (lock_y_turned (axis_map_of s.chain) (axis_signs s.chain) s.chain.spindle s.chain.spindle previous P);
-  locked = λ onSecond target. both_turnable 37000 _ (lit≤ tt) (unwound_locked s previous P onSecond target);
-  tested = λ onSecond target tip. holds_map Turned (λ j. BothTurnable (angles_of j)) (λ j A. both_turnable 37000 (angles_of j) (lit≤ tt) A) (locked_joints s onSecond target tip previous) (locked_turned s previous P onSecond target tip);
+-- what holds of the lock by any map
+pub record LockTurns (m : AxisMap) (s : Setup) (previous : Angles) : Type 0 where
+  pub lock_x : Turnable (times m.x_sign (hint_x m previous))
+  pub lock_y : Turnable (times m.y_sign (hint_y m previous))
+  pub locked : (onSecond : Bool) (target : Vec3) → BothTurnable (unwind_angles (has_second s.bounds) (locked_angles m onSecond s.chain.spindle target previous) previous)
+  pub tested : (onSecond : Bool) (target tip : Vec3) → Holds (λ j. BothTurnable (angles_of j)) (locked_by m s onSecond target tip previous)
+
+pub lock_turns : (m : AxisMap) → Signs m → (s : Setup) (previous : Angles) → PairUpTo 36000 previous → LockTurns m s previous
+lock_turns m S s previous P = record {
+  lock_x = up_to_turnable 36000 _ (lit≤ tt) (lock_x_turned m S s.chain.spindle s.chain.spindle previous P);
+  lock_y = up_to_turnable 36000 _ (lit≤ tt) (lock_y_turned m S s.chain.spindle s.chain.spindle previous P);
+  locked = λ onSecond target. both_turnable 37000 _ (lit≤ tt) (unwound_locked m S s previous P onSecond target);
+  tested = λ onSecond target tip. holds_map Turned (λ j. BothTurnable (angles_of j)) (λ j A. both_turnable 37000 (angles_of j) (lit≤ tt) A) (locked_by m s onSecond target tip previous) (turned_by m S s previous P onSecond target tip);
 }
+
+pub pose_turns : (s : Setup) (previous : Angles) → PairUpTo 36000 previous → PoseTurns s previous
+unfolding locked_joints locked_by
+pose_turns s previous P =
+    let lock = lock_turns (axis_map_of s.chain) (axis_signs s.chain) s previous P in
+    record {
+      first = λ target. raw_turnable (orientation_angles s.chain target previous).first (raw_within s.chain target previous P).0;
+      second = λ target. raw_turnable (orientation_angles s.chain target previous).second (raw_within s.chain target previous P).1;
+      lock_x = lock.lock_x;
+      lock_y = lock.lock_y;
+      locked = lock.locked;
+      tested = lock.tested;
+    }
 
 -- ---- along the path
 turned_up_to : (j : Joints) → Turned j → turned_within j ≡ true → PairUpTo 36000 (angles_of j)
@@ -263,15 +295,25 @@ unfoldable pub EachPose : (Setup → Angles → Type 0) → Setup → Angles →
 EachPose P s previous i [] = Unit {0}
 EachPose P s previous i (pose ∷ l) = P s previous × Holds (λ j. EachPose P s (angles_of j) (suc i) l) (pose_answer s pose previous i)
 
-each_turns : (s : Setup) (l : List ToolPose) (previous : Angles) (i : ℕ) → PairUpTo 36000 previous → EachPose PoseTurns s previous i l
+each_pose : (P : Setup → Angles → Type 0) → ((s : Setup) (previous : Angles) → PairUpTo 36000 previous → P s previous)
+    → (s : Setup) (l : List ToolPose) (previous : Angles) (i : ℕ) → PairUpTo 36000 previous → EachPose P s previous i l
 unfolding EachPose
-each_turns s [] previous i P = tt
-each_turns s (pose ∷ l) previous i P = (
-  pose_turns s previous P,
-  holds_map (λ j. PairUpTo 36000 (angles_of j)) (λ j. EachPose PoseTurns s (angles_of j) (suc i) l) (λ j A. each_turns s l (angles_of j) (suc i) A) (pose_answer s pose previous i) (pose_angles s pose previous i P),
+each_pose P h s [] previous i A = tt
+each_pose P h s (pose ∷ l) previous i A = (
+  h s previous A,
+  holds_map (λ j. PairUpTo 36000 (angles_of j)) (λ j. EachPose P s (angles_of j) (suc i) l) (λ j B. each_pose P h s l (angles_of j) (suc i) B) (pose_answer s pose previous i) (pose_angles s pose previous i A),
 )
+
+each_turns : (s : Setup) (l : List ToolPose) (previous : Angles) (i : ℕ) → PairUpTo 36000 previous → EachPose PoseTurns s previous i l
+each_turns = each_pose PoseTurns pose_turns
 
 -- solve_path: where its checks pass, at every pose
 pub path_turns : (k : Kinematics) (poses : List Float) (start : Option Joints) (cone : Float) (room : ℕ) → StartFits start → solve_check k start cone (length poses) room ≡ Ok tt
     → EachPose PoseTurns (set_up k cone) (start_angles start) 0 (poses_in poses)
 path_turns k poses start cone room f e = each_turns (set_up k cone) (poses_in poses) (start_angles start) 0 (start_turned k start cone (length poses) room e f)
+
+-- and of the lock by any map
+pub path_lock_turns : (m : AxisMap) → Signs m → (k : Kinematics) (poses : List Float) (start : Option Joints) (cone : Float) (room : ℕ) → StartFits start
+    → solve_check k start cone (length poses) room ≡ Ok tt → EachPose (LockTurns m) (set_up k cone) (start_angles start) 0 (poses_in poses)
+path_lock_turns m S k poses start cone room f e =
+    each_pose (LockTurns m) (lock_turns m S) (set_up k cone) (poses_in poses) (start_angles start) 0 (start_turned k start cone (length poses) room e f)
